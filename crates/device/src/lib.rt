@@ -1,0 +1,1 @@
+//! What a simulated device is: definitions for contracts, in specs/, and no code.

@@ -1,0 +1,4 @@
+pub mod Options
+pub mod Moves
+pub mod PileLaws
+pub mod Stacks

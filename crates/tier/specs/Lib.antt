@@ -1,0 +1,5 @@
+pub mod Marks
+pub mod Refusals
+pub mod Meaning
+pub mod Pile
+pub mod Stacked
