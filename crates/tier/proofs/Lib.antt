@@ -1,4 +1,6 @@
 pub mod Options
+pub mod Holdings
+pub mod Builds
 pub mod Moves
 pub mod PileLaws
 pub mod Stacks

@@ -15,7 +15,8 @@ use Rattle.tier.specs.declared.line.Line.{Line}
 use Rattle.tier.specs.Marks.{markNumber}
 use Rattle.tier.specs.Meaning.{TierMeaning, TierCall, put, take, change, touch, clear, Holding, depthOf, lookOf, outOf, ifHeld, bare, TierLaws, Lawful}
 use Rattle.tier.specs.Pile.{Parts, parts, deeper, first, pileLook, sink, sunk, unlessHeld, pileOut, pileView, toShown, pileStep, pileDepth, pile}
-use Rattle.tier.proofs.Options.{never, none-some, some-same, is-some, some-of}
+use Rattle.tier.proofs.Options.{never, none-some, some-same}
+use Rattle.tier.proofs.Holdings.{held-some, held-none, bare-none}
 
 abbrev pub block : Line → ℕ
 block g = g .block
@@ -29,10 +30,6 @@ both-none d (Some x) b e = never x (sym e)
 
 first-same : (d : ℕ) (a a′ b b′ : Option Holding) → a ≡ a′ → b ≡ b′ → first d a b ≡ first d a′ b′
 first-same d a a′ b b′ p q = ap (λ x. first d x b) p ∙ ap (first d a′) q
-
-pub bare-none : (a : Option Holding) → bare a ≡ None → a ≡ None
-bare-none None e = refl
-bare-none (Some x) e = never (x .0, x .1) (sym e)
 
 bare-first : (d : ℕ) (a a′ b b′ : Option Holding) → bare a ≡ bare a′ → bare b ≡ bare b′ → bare (first d a b) ≡ bare (first d a′ b′)
 bare-first d None None None None p q = refl
@@ -50,12 +47,6 @@ bare-upper d (Some y) b x e = e
 bare-lower : (d : ℕ) (a b : Option Holding) → a ≡ None → bare (first d a b) ≡ bare b
 bare-lower d a None e = ap (λ o. bare (first d o None)) e
 bare-lower d a (Some y) e = ap (λ o. bare (first d o (Some y))) e
-
-pub held-some : {X : Type 0} (o : Option Holding) (x y : X) → isSome o ≡ true → ifHeld o x y ≡ x
-held-some o x y h = ap (λ p. ifHeld p x y) (some-of o h .1)
-
-pub held-none : {X : Type 0} (o : Option Holding) (x y : X) → o ≡ None → ifHeld o x y ≡ y
-held-none o x y h = ap (λ p. ifHeld p x y) h
 
 -- a line that leaves is one that the upper does not hold
 left-out : (u : TierMeaning) (o : Option Line) (x : Line) → unlessHeld u o ≡ Some x → (o ≡ Some x) × (lookOf u (x .block) ≡ None)

@@ -15,7 +15,8 @@ use Rattle.tier.specs.Meaning.{TierMeaning, TierView, TierCall, put, take, cha
 use Rattle.tier.specs.Pile.{Parts, parts, first, pileLook, sink, toShown, pileStep, pile}
 use Rattle.tier.specs.Stacked.{Stacked, StaysStacked}
 use Rattle.tier.proofs.Options.{never, none-some, some-same, is-some, some-of, not-some}
-use Rattle.tier.proofs.PileLaws.{block, both-none, bare-none, Sound, keeps, fu, upper-same, lower-same, away-held}
+use Rattle.tier.proofs.Holdings.{bare-none, bare-held}
+use Rattle.tier.proofs.PileLaws.{block, both-none, Sound, keeps, fu, upper-same, lower-same, away-held}
 
 -- no block is in both parts
 abbrev Apart : Parts → Type 0
@@ -24,10 +25,6 @@ Apart p = (n : ℕ) → isSome (lookOf (p .upper) n) ≡ true → lookOf (p .low
 -- the same blocks are held
 abbrev SameBlocks : TierMeaning → TierMeaning → Type 0
 SameBlocks m m′ = (b : ℕ) → isSome (lookOf m′ b) ≡ isSome (lookOf m b)
-
-bare-held : (a : Option Holding) → isSome (bare a) ≡ isSome a
-bare-held None = refl
-bare-held (Some h) = refl
 
 module _ (m : TierMeaning) (ok : Lawful m) where
   change-same : (n : ℕ) (k : Mark) (s : ℕ) → SameBlocks m (after m (change n k s))

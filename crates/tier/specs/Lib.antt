@@ -3,3 +3,4 @@ pub mod Refusals
 pub mod Meaning
 pub mod Pile
 pub mod Stacked
+pub mod Building

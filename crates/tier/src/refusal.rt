@@ -1,5 +1,6 @@
 //! What a tier refuses.
 ghost use mathlib.Core.Path.{_≡_};
+ghost use Rattle.tier.specs.declared.refusal.BuildError.the-variants.{NoMemory};
 ghost use Rattle.tier.specs.Refusals.{refusalNumber, buildNumber};
 use std::alloc::AllocError;
 
@@ -45,6 +46,8 @@ impl<T> BuildError<T> {
 }
 
 pub impl<T> From<AllocError> for BuildError<T> as BuildErrorFromAlloc {
+    ghost converts = { λ _ r. r ≡ NoMemory };
+
     fn from(_: AllocError) -> BuildError<T> {
         BuildError::NoMemory
     }

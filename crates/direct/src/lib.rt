@@ -1,0 +1,2 @@
+//! The direct-mapped tier.
+pub mod direct;
