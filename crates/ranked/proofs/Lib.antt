@@ -1,0 +1,5 @@
+pub mod Ranks
+pub mod Places
+pub mod Touches
+pub mod RankedLaws
+pub mod Ages

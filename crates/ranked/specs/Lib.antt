@@ -1,0 +1,4 @@
+pub mod Ranks
+pub mod Ranked
+pub mod Queue
+pub mod Ages
