@@ -32,7 +32,7 @@ rises-low : (f : ℕ → ℕ) (low low′ : ℕ) (ls : Ranks) (t : ℕ) → low�
 rises-low f low low′ [] t le h = omega arith
 rises-low f low low′ (g ∷ gs) t le h = (let p = h .0 in omega arith, h .1)
 
-rises-later : (f : ℕ → ℕ) (low : ℕ) (ls : Ranks) (t t′ : ℕ) → t ≤ t′ → Rises f low ls t → Rises f low ls t′
+pub rises-later : (f : ℕ → ℕ) (low : ℕ) (ls : Ranks) (t t′ : ℕ) → t ≤ t′ → Rises f low ls t → Rises f low ls t′
 rises-later f low [] t t′ le h = omega arith
 rises-later f low (g ∷ gs) t t′ le h = (h .0, rises-later f _ gs t t′ le (h .1))
 

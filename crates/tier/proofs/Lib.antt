@@ -1,5 +1,6 @@
 pub mod Options
 pub mod Holdings
+pub mod Holds
 pub mod Builds
 pub mod Moves
 pub mod PileLaws

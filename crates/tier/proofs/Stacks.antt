@@ -16,26 +16,12 @@ use Rattle.tier.specs.Pile.{Parts, parts, first, pileLook, sink, toShown, pile
 use Rattle.tier.specs.Stacked.{Stacked, StaysStacked}
 use Rattle.tier.proofs.Options.{never, none-some, some-same, is-some, some-of, not-some}
 use Rattle.tier.proofs.Holdings.{bare-none, bare-held}
+use Rattle.tier.proofs.Holds.{SameBlocks, change-same, touch-same}
 use Rattle.tier.proofs.PileLaws.{block, both-none, Sound, keeps, fu, upper-same, lower-same, away-held}
 
 -- no block is in both parts
 abbrev Apart : Parts → Type 0
 Apart p = (n : ℕ) → isSome (lookOf (p .upper) n) ≡ true → lookOf (p .lower) n ≡ None
-
--- the same blocks are held
-abbrev SameBlocks : TierMeaning → TierMeaning → Type 0
-SameBlocks m m′ = (b : ℕ) → isSome (lookOf m′ b) ≡ isSome (lookOf m b)
-
-module _ (m : TierMeaning) (ok : Lawful m) where
-  change-same : (n : ℕ) (k : Mark) (s : ℕ) → SameBlocks m (after m (change n k s))
-  change-same n k s b = elim (ℕ-discrete b n) [ no q ↦ ap isSome (ok [] .change-rest n k s b q) | yes q ↦ go (lookOf m n) refl q ]
-    where
-      go : (o : Option Holding) → lookOf m n ≡ o → b ≡ n → isSome (lookOf (after m (change n k s)) b) ≡ isSome (lookOf m b)
-      go None e q = ap (λ x. isSome (lookOf x b)) (ok [] .change-free n k s e)
-      go (Some h) e q = ap (λ i. isSome (lookOf (after m (change n k s)) i)) q ∙ ap isSome (ok [] .change-in n k s h e) ∙ sym (ap isSome (ap (lookOf m) q ∙ e))
-
-  touch-same : (n : ℕ) → SameBlocks m (after m (touch n))
-  touch-same n b = ap isSome (ok [] .touch-look n b)
 
 module _ (p : Parts) (ok : Sound p) (apart : Apart p) where
   abbrev u : TierMeaning

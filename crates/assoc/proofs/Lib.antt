@@ -1,0 +1,5 @@
+pub mod Maps
+pub mod SetsLaws
+pub mod Calls
+pub mod Clears
+pub mod SetAges

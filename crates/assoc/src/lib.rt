@@ -1,0 +1,2 @@
+//! The set-associative tier.
+pub mod set_associative;
