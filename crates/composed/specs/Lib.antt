@@ -1,0 +1,5 @@
+pub mod Calls
+pub mod Window
+pub mod WindowLaws
+pub mod Interleaved
+pub mod InterleavedLaws

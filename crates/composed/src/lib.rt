@@ -1,0 +1,4 @@
+//! Memories made of memories.
+
+pub mod interleaved;
+pub mod window;
