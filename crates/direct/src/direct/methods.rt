@@ -1,10 +1,11 @@
 //! What a direct tier does.
 ghost use mathlib.Core.Path.{_≡_};
-ghost use Prim.Native.Nat.{_≤_};
+ghost use Prim.Native.Nat.{_<_, _≤_};
+ghost use Rattle.std.specs.Of.Vec.{vec-items, vec-len};
 ghost use Rattle.std.specs.Vec.{made};
 ghost use Rattle.device.specs.Device.{Always};
 ghost use Rattle.tier.specs.Building.{Builds};
-ghost use Rattle.direct.specs.Lines.{direct, empty, built};
+ghost use Rattle.direct.specs.Lines.{slot, direct, empty, built};
 ghost use Rattle.direct.specs.Direct.{directOf};
 ghost use Rattle.direct.specs.Mapped.{DirectMapped};
 use crate::direct::Direct;
@@ -47,6 +48,14 @@ impl Direct {
         let lines = vec![in heap; None; lines]?;
         Ok(Direct { lines })
     }
+
+    // The number of the line of a block.
+    fn slot(&self, block: u16) -> usize
+        ensures value { λ r. ⌜ r ≡ slot (vec-items (now (self .entry) .lines)) block ⌝ }
+        ensures within { λ r. ⌜ r < vec-len (now (self .entry) .lines) ⌝ }
+    {
+        usize::from(block) % self.lines.len()
+    }
 }
 
 pub impl Tier for Direct as DirectTier {
@@ -57,7 +66,8 @@ pub impl Tier for Direct as DirectTier {
     }
 
     fn look(&self, block: u16) -> Option<(u8, u32, u8)> {
-        match self.lines[usize::from(block) % self.lines.len()] {
+        let slot = self.slot(block);
+        match self.lines[slot] {
             Some(line) if line.block == block => Some((line.mark.number(), line.stamp, 1)),
             _ => None,
         }
@@ -67,7 +77,7 @@ pub impl Tier for Direct as DirectTier {
         match self.look(block) {
             Some(_) => Err(Refusal::AlreadyHeld),
             None => {
-                let slot = usize::from(block) % self.lines.len();
+                let slot = self.slot(block);
                 let out = self.lines[slot];
                 self.lines[slot] = Some(Line { block, mark, stamp });
                 Ok(out)
@@ -78,7 +88,7 @@ pub impl Tier for Direct as DirectTier {
     fn take(&mut self, block: u16) -> Option<(u8, u32, u8)> {
         let shown = self.look(block);
         if shown.is_some() {
-            let slot = usize::from(block) % self.lines.len();
+            let slot = self.slot(block);
             self.lines[slot] = None;
         }
         shown
@@ -87,7 +97,7 @@ pub impl Tier for Direct as DirectTier {
     fn change(&mut self, block: u16, mark: Mark, stamp: u32) -> Result<(), Refusal> {
         match self.look(block) {
             Some(_) => {
-                let slot = usize::from(block) % self.lines.len();
+                let slot = self.slot(block);
                 self.lines[slot] = Some(Line { block, mark, stamp });
                 Ok(())
             }
