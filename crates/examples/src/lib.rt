@@ -1,0 +1,15 @@
+//! Worked examples: proved of the definitions, and run as tests of the code.
+ghost use mathlib.Core.Path.{_≡_};
+ghost use Rattle.examples.specs.Examples.{Examples};
+
+/// The examples hold of the definitions; the answer is how many there are.
+pub fn examples_hold() -> u8
+    ensures { λ r. ⌜ (r ≡ 6) × Examples ⌝ }
+{
+    6
+}
+
+#[cfg(test)]
+mod memory_tests;
+#[cfg(test)]
+mod tier_tests;
