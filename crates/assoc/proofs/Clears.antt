@@ -29,8 +29,9 @@ cleared-more i ms ms′ ms″ lt h e =
     record {
       count = ap length e ∙ length-set ms′ i (after (nth ms′ i) clear) ∙ h .count;
       done = λ k le. elim (ℕ-discrete k i) [
-        yes q ↦ ap (nth ms″) q ∙ ap (λ xs. nth xs i) e ∙ getD-set-same ms′ i (after (nth ms′ i) clear) (lru 1) within ∙ ap (λ m. after m clear) (h .rest i (omega arith) ∙ sym (ap (nth ms) q)) |
-        no q ↦ other k q ∙ h .done k (omega arith) ];
+        | yes q ↦ ap (nth ms″) q ∙ ap (λ xs. nth xs i) e ∙ getD-set-same ms′ i (after (nth ms′ i) clear) (lru 1) within ∙ ap (λ m. after m clear) (h .rest i (omega arith) ∙ sym (ap (nth ms) q))
+        | no q ↦ other k q ∙ h .done k (omega arith)
+      ];
       rest = λ k le. other k (λ q. absurd (omega arith)) ∙ h .rest k (omega arith);
     }
 
@@ -46,5 +47,6 @@ placed-clear ms ms′ i lt ok placed e = subst (λ (xs : Sets). Placed xs) (sym 
     go j b h =
         ap (λ k. b % k) (length-set ms i (after (nth ms i) clear))
         ∙ elim (ℕ-discrete j i) [
-          yes q ↦ never _ (sym (ap (λ k. lookOf (nth (called ms i clear) k) b) q ∙ ap (λ m. lookOf m b) (getD-set-same ms i (after (nth ms i) clear) (lru 1) lt) ∙ ok [] .clear-gone b) ∙ some-of _ h .1) |
-          no q ↦ placed j b (sym (ap (λ m. isSome (lookOf m b)) (getD-set-other ms i j (after (nth ms i) clear) (lru 1) q)) ∙ h) ]
+          | yes q ↦ never _ (sym (ap (λ k. lookOf (nth (called ms i clear) k) b) q ∙ ap (λ m. lookOf m b) (getD-set-same ms i (after (nth ms i) clear) (lru 1) lt) ∙ ok [] .clear-gone b) ∙ some-of _ h .1)
+          | no q ↦ placed j b (sym (ap (λ m. isSome (lookOf m b)) (getD-set-other ms i j (after (nth ms i) clear) (lru 1) q)) ∙ h)
+        ]

@@ -98,8 +98,9 @@ module _ (sets ways : ℕ) (ms : Sets) (f : ℕ → ℕ) (t : ℕ) (h : Aged set
     good = good;
     count = same-count ms (h .good) n c ∙ h .count;
     rows = λ i lt. elim (ℕ-discrete i (index ms n)) [
-      yes q ↦ row-of ways _ _ _ _ (ap (nth (called ms (index ms n) c)) q ∙ nth-own ms (h .good) n c) (row-own n c alike) |
-      no q ↦ row-of ways _ _ _ _ (nth-other ms (h .good) n c i q) (row-other n c names i q (h .rows i (subst (λ (j : ℕ). i < j) (same-count ms (h .good) n c) lt))) ];
+      | yes q ↦ row-of ways _ _ _ _ (ap (nth (called ms (index ms n) c)) q ∙ nth-own ms (h .good) n c) (row-own n c alike)
+      | no q ↦ row-of ways _ _ _ _ (nth-other ms (h .good) n c i q) (row-other n c names i q (h .rows i (subst (λ (j : ℕ). i < j) (same-count ms (h .good) n c) lt)))
+    ];
   }
 
   aged-clear : Aged sets ways (setsStep ms clear) (told whole clear t f) (suc t)
@@ -107,9 +108,9 @@ module _ (sets ways : ℕ) (ms : Sets) (f : ℕ → ℕ) (t : ℕ) (h : Aged set
     good = keeps ms (h .good) clear;
     count = count-clear ms (h .good) ∙ h .count;
     rows = λ i lt.
-      let lt′ : i < length ms = subst (λ (j : ℕ). i < j) (count-clear ms (h .good)) lt in
-      let r = h .rows i lt′ in
-      record { lines = []; is = nth-clear ms (h .good) i lt′ ∙ ap (λ m. after m clear) (r .is); sound = refl; rises = omega arith };
+        let lt′ : i < length ms = subst (λ (j : ℕ). i < j) (count-clear ms (h .good)) lt in
+        let r = h .rows i lt′ in
+        record { lines = []; is = nth-clear ms (h .good) i lt′ ∙ ap (λ m. after m clear) (r .is); sound = refl; rises = omega arith };
   }
 
   aged-step : (c : TierCall) → Aged sets ways (setsStep ms c) (told whole c t f) (suc t)
@@ -129,14 +130,14 @@ module _ (sets ways : ℕ) (ms : Sets) (f : ℕ → ℕ) (t : ℕ) (h : Aged set
       oldest-first f (r .lines) t g b (r .rises) (ousted-oldest ways (r .lines) g (sym (ap (λ m. outOf m n k s) (r .is)) ∙ o)) (found-held (r .lines) b there) ne
 
 last-first : (sets ways : ℕ) (cs : List TierCall) (ms : Sets) (f : ℕ → ℕ) (t : ℕ) → Aged sets ways ms f t → (n : ℕ) (k : Mark) (s : ℕ) (g : Line)
-  → outOf (reach (setAssociative ms) cs) n k s ≡ Some g → (b : ℕ) → isSome (lookOf (reach (setAssociative ms) cs) b) ≡ true → b % sets ≡ n % sets → (b ≡ g .block → ⊥)
-  → lastUse true (setAssociative ms) cs t f (g .block) < lastUse true (setAssociative ms) cs t f b
+    → outOf (reach (setAssociative ms) cs) n k s ≡ Some g → (b : ℕ) → isSome (lookOf (reach (setAssociative ms) cs) b) ≡ true → b % sets ≡ n % sets → (b ≡ g .block → ⊥)
+    → lastUse true (setAssociative ms) cs t f (g .block) < lastUse true (setAssociative ms) cs t f b
 last-first sets ways [] ms f t h n k s g o b held e ne = now-first sets ways ms f t h n k s g o b held e ne
 last-first sets ways (c ∷ cs) ms f t h n k s g o b held e ne =
     last-first sets ways cs (setsStep ms c) _ (suc t) (aged-step sets ways ms f t h c) n k s g o b held e ne
 
 of-set : (sets ways : ℕ) (cs : List TierCall) (ms : Sets) → Good ms → length ms ≡ sets → (n : ℕ) (k : Mark) (s : ℕ) (g : Line)
-  → lookOf (reach (setAssociative ms) cs) n ≡ None → outOf (reach (setAssociative ms) cs) n k s ≡ Some g → g .block % sets ≡ n % sets
+    → lookOf (reach (setAssociative ms) cs) n ≡ None → outOf (reach (setAssociative ms) cs) n k s ≡ Some g → g .block % sets ≡ n % sets
 of-set sets ways [] ms ok e n k s g free o = sym (ap (λ i. g .block % i) e) ∙ out-mate ms ok n k s g free o ∙ ap (λ i. n % i) e
 of-set sets ways (c ∷ cs) ms ok e n k s g free o = of-set sets ways cs (setsStep ms c) (keeps ms ok c) (stays c ∙ e) n k s g free o
   where

@@ -81,8 +81,9 @@ module _ (ms : Sets) (ok : Good ms) where
     -- what the call leaves in the set, it leaves in the tier
     rest : {R : Type 0} (f : Option Holding → R) (b : ℕ) → f (lookOf (after (home n) c) b) ≡ f (lookOf (home n) b) → f (look next b) ≡ f (look ms b)
     rest f b e = elim (ℕ-discrete (index ms b) (index ms n)) [
-        yes q ↦ ap f (look-own b q) ∙ e ∙ ap f (sym (mate b q)) |
-        no q ↦ ap f (look-other b q) ]
+      | yes q ↦ ap f (look-own b q) ∙ e ∙ ap f (sym (mate b q))
+      | no q ↦ ap f (look-other b q)
+    ]
 
     same-sets : after (home n) c ≡ home n → setAssociative next ≡ setAssociative ms
     same-sets e = ap setAssociative (ap (set ms (index ms n)) e ∙ set-nth ms (index ms n))
@@ -91,17 +92,20 @@ module _ (ms : Sets) (ok : Good ms) where
     good-next only = record {
       some = subst (λ (i : ℕ). 1 ≤ i) (sym same-count) (ok .some);
       lawful = λ i lt. elim (ℕ-discrete i (index ms n)) [
-        yes q ↦ subst (λ (m : TierMeaning). Lawful m) (sym (ap (nth next) q ∙ nth-own)) (λ cs. ok .lawful (index ms n) (within n) (c ∷ cs)) |
-        no q ↦ subst (λ (m : TierMeaning). Lawful m) (sym (nth-other i q)) (ok .lawful i (subst (λ (j : ℕ). i < j) same-count lt)) ];
+        | yes q ↦ subst (λ (m : TierMeaning). Lawful m) (sym (ap (nth next) q ∙ nth-own)) (λ cs. ok .lawful (index ms n) (within n) (c ∷ cs))
+        | no q ↦ subst (λ (m : TierMeaning). Lawful m) (sym (nth-other i q)) (ok .lawful i (subst (λ (j : ℕ). i < j) same-count lt))
+      ];
       placed = λ i b h. ap (λ j. b % j) same-count ∙ elim (ℕ-discrete i (index ms n)) [
-        yes q ↦ own i b q h |
-        no q ↦ ok .placed i b (sym (ap (λ m. isSome (lookOf m b)) (nth-other i q)) ∙ h) ];
+        | yes q ↦ own i b q h
+        | no q ↦ ok .placed i b (sym (ap (λ m. isSome (lookOf m b)) (nth-other i q)) ∙ h)
+      ];
     }
       where
         own : (i b : ℕ) → i ≡ index ms n → isSome (lookOf (nth next i) b) ≡ true → b % length ms ≡ i
         own i b q h = elim (ℕ-discrete b n) [
-          yes r ↦ ap (index ms) r ∙ sym q |
-          no r ↦ ok .placed (index ms n) b (only b r (sym (ap (λ m. isSome (lookOf m b)) (ap (nth next) q ∙ nth-own)) ∙ h)) ∙ sym q ]
+          | yes r ↦ ap (index ms) r ∙ sym q
+          | no r ↦ ok .placed (index ms n) b (only b r (sym (ap (λ m. isSome (lookOf m b)) (ap (nth next) q ∙ nth-own)) ∙ h)) ∙ sym q
+        ]
 
   pub count-clear : length (map (λ m. after m clear) ms) ≡ length ms
   count-clear = length-means (λ m. after m clear) ms
@@ -149,8 +153,8 @@ module _ (ms : Sets) (ok : Good ms) where
     change-rest = λ n k s b ne. rest n (change n k s) (λ o. o) b (at n .change-rest n k s b ne);
     touch-look = λ n b. rest n (touch n) (λ o. o) b (at n .touch-look n b);
     clear-gone = λ n.
-      ap (λ i. lookOf (nth (map (λ m. after m clear) ms) (n % i)) n) count-clear
-      ∙ ap (λ m. lookOf m n) (nth-clear (index ms n) (within n)) ∙ at n .clear-gone n;
+        ap (λ i. lookOf (nth (map (λ m. after m clear) ms) (n % i)) n) count-clear
+        ∙ ap (λ m. lookOf m n) (nth-clear (index ms n) (within n)) ∙ at n .clear-gone n;
     put-held = λ n k s h. same-sets n (put n k s) (at n .put-held n k s h);
     take-free = λ n e. same-sets n (take n) (at n .take-free n e);
     change-free = λ n k s e. same-sets n (change n k s) (at n .change-free n k s e);

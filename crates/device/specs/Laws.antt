@@ -22,9 +22,9 @@ module _ {S K C V : Type 0} (fixed : S → K) (view : S → V) (step : S → C �
 
   -- what holds of the device at each good state holds always, if calls keep states good
   pub device-always : (P : Device K C V → Type 0) (Good : S → Type 0)
-    → ((s : S) (c : C) → Good s → Good (step s c))
-    → ((s : S) → Good s → P (device fixed view step s))
-    → (s : S) → Good s → Always P (device fixed view step s)
+      → ((s : S) (c : C) → Good s → Good (step s c))
+      → ((s : S) → Good s → P (device fixed view step s))
+      → (s : S) → Good s → Always P (device fixed view step s)
   device-always P Good keeps holds s good [] = holds s good
   device-always P Good keeps holds s good (c ∷ cs) =
       let Q : Device K C V → Type 0 = λ d. P (reach d cs) in

@@ -37,8 +37,9 @@ shows-other g n e = ap (λ b. cond b (Some (holding g)) None) (ne-eqb (g .block)
 shown-own : (o : Option Line) (n : ℕ) (h : Holding) → shows o n ≡ Some h → (g : Line) × (o ≡ Some g) × (g .block ≡ n) × (holding g ≡ h)
 shown-own None n h e = never h e
 shown-own (Some g) n h e = elim (ℕ-discrete (g .block) n) [
-    yes q ↦ (g, refl, q, some-same (holding g) h (sym (shows-own g n q) ∙ e)) |
-    no q ↦ none-some (shows (Some g) n) h (shows-other g n q) e ]
+  | yes q ↦ (g, refl, q, some-same (holding g) h (sym (shows-own g n q) ∙ e))
+  | no q ↦ none-some (shows (Some g) n) h (shows-other g n q) e
+]
 
 shows-not : (o : Option Line) (n : ℕ) → (mapped (λ (g : Line). g .block) o ≡ Some n → ⊥) → shows o n ≡ None
 shows-not None n h = refl
@@ -91,8 +92,9 @@ module _ (lines : ℕ) (ls : Lines) (ok : Sound lines ls) where
   placed-set n x h i g e =
       ap (λ m. g .block % m) (length-set ls (slot ls n) x)
       ∙ elim (ℕ-discrete i (slot ls n)) [
-        yes q ↦ ap (λ m. m % len) (h g (sym (getD-set-same ls (slot ls n) x None (within n)) ∙ ap (λ j. getD (set ls (slot ls n) x) j None) (sym q) ∙ e)) ∙ sym q |
-        no q ↦ ok .2 i g (sym (getD-set-other ls (slot ls n) i x None q) ∙ e) ]
+        | yes q ↦ ap (λ m. m % len) (h g (sym (getD-set-same ls (slot ls n) x None (within n)) ∙ ap (λ j. getD (set ls (slot ls n) x) j None) (sym q) ∙ e)) ∙ sym q
+        | no q ↦ ok .2 i g (sym (getD-set-other ls (slot ls n) i x None q) ∙ e)
+      ]
 
   sound-set : (n : ℕ) (x : Option Line) → ((g : Line) → x ≡ Some g → g .block ≡ n) → Sound lines (set ls (slot ls n) x)
   sound-set n x h = (ok .0, length-set ls (slot ls n) x ∙ ok .1, placed-set n x h)
@@ -121,11 +123,12 @@ module _ (lines : ℕ) (ls : Lines) (ok : Sound lines ls) where
   put-next n k s e = held-none (look ls n) _ _ e
 
   put-beside : (n : ℕ) (k : Mark) (s b : ℕ) → (b ≡ n → ⊥) → (mapped (λ (g : Line). g .block) (at ls n) ≡ Some b → ⊥)
-    → look (set ls (slot ls n) (Some (line n k s))) b ≡ look ls b
+      → look (set ls (slot ls n) (Some (line n k s))) b ≡ look ls b
   put-beside n k s b ne no-out = elim (ℕ-discrete (slot ls b) (slot ls n)) [
-      yes q ↦ at-same n b (Some (line n k s)) q ∙ shows-other (line n k s) b (λ z. ne (sym z))
-        ∙ sym (ap (λ i. shows (getD ls i None) b) q ∙ shows-not (at ls n) b no-out) |
-      no q ↦ at-other n b (Some (line n k s)) q ]
+    | yes q ↦ at-same n b (Some (line n k s)) q ∙ shows-other (line n k s) b (λ z. ne (sym z))
+        ∙ sym (ap (λ i. shows (getD ls i None) b) q ∙ shows-not (at ls n) b no-out)
+    | no q ↦ at-other n b (Some (line n k s)) q
+  ]
 
   -- block n is held: a write to its line leaves every other block
   beside : (o : Option Holding) (n b : ℕ) (x : Option Line) → (b ≡ n → ⊥) → shows x b ≡ None → look ls n ≡ o → look (ifHeld o (set ls (slot ls n) x) ls) b ≡ look ls b
@@ -133,8 +136,9 @@ module _ (lines : ℕ) (ls : Lines) (ok : Sound lines ls) where
   beside (Some y) n b x ne h e =
       let r = shown-own (at ls n) n y e in
       elim (ℕ-discrete (slot ls b) (slot ls n)) [
-        yes q ↦ at-same n b x q ∙ h ∙ sym (ap (λ i. shows (getD ls i None) b) q ∙ ap (λ o. shows o b) (r .1) ∙ shows-other (r .0) b (λ z. ne (sym z ∙ r .2))) |
-        no q ↦ at-other n b x q ]
+        | yes q ↦ at-same n b x q ∙ h ∙ sym (ap (λ i. shows (getD ls i None) b) q ∙ ap (λ o. shows o b) (r .1) ∙ shows-other (r .0) b (λ z. ne (sym z ∙ r .2)))
+        | no q ↦ at-other n b x q
+      ]
 
   take-look : (n : ℕ) → look (directStep ls (take n)) n ≡ None
   take-look n = go (look ls n) refl
@@ -153,15 +157,15 @@ module _ (lines : ℕ) (ls : Lines) (ok : Sound lines ls) where
     put-rest = λ n k s b e ne no-out. ap bare (ap (λ ms. look ms b) (put-next n k s e) ∙ put-beside n k s b ne no-out);
     out-held = λ n k s g e o. ap bare (there n g o .1);
     out-gone = λ n k s g e o.
-      let r = there n g o in
-      let ne : n ≡ g .block → ⊥ = λ q. none-some (look ls n) (holding g) e (ap (look ls) q ∙ r .1) in
-      ap (λ ms. look ms (g .block)) (put-next n k s e) ∙ at-same n (g .block) (Some (line n k s)) (r .0) ∙ shows-other (line n k s) (g .block) ne;
+        let r = there n g o in
+        let ne : n ≡ g .block → ⊥ = λ q. none-some (look ls n) (holding g) e (ap (look ls) q ∙ r .1) in
+        ap (λ ms. look ms (g .block)) (put-next n k s e) ∙ at-same n (g .block) (Some (line n k s)) (r .0) ∙ shows-other (line n k s) (g .block) ne;
     take-gone = take-look;
     take-rest = λ n b ne. beside (look ls n) n b None ne refl refl;
     change-in = λ n k s h e.
-      let r = shown-own (at ls n) n h e in
-      ap (λ ms. look ms n) (held-some (look ls n) _ _ (is-some _ h e)) ∙ at-same n n (Some (line n k s)) refl ∙ shows-own (line n k s) n refl
-      ∙ ap (λ (x : Holding). Some (markNumber k, s, x .2)) (r .3);
+        let r = shown-own (at ls n) n h e in
+        ap (λ ms. look ms n) (held-some (look ls n) _ _ (is-some _ h e)) ∙ at-same n n (Some (line n k s)) refl ∙ shows-own (line n k s) n refl
+        ∙ ap (λ (x : Holding). Some (markNumber k, s, x .2)) (r .3);
     change-rest = λ n k s b ne. beside (look ls n) n b (Some (line n k s)) ne (shows-other (line n k s) b (λ q. ne (sym q))) refl;
     touch-look = λ n b. refl;
     clear-gone = λ n. ap (λ o. shows o n) (empty-at len (n % length (empty len)));
@@ -182,13 +186,13 @@ module _ (lines : ℕ) (ls : Lines) (ok : Sound lines ls) where
   mapped-so : DirectMapped lines (direct ls)
   mapped-so = record {
     alone = λ a b ha hb e.
-      let x = line-of a ha in
-      let y = line-of b hb in
-      let g : x .0 ≡ y .0 = some-same (x .0) (y .0) (sym (x .1) ∙ ap (λ i. getD ls i None) (slots a b e) ∙ y .1) in
-      sym (x .2) ∙ ap (λ (z : Line). z .block) g ∙ y .2;
+        let x = line-of a ha in
+        let y = line-of b hb in
+        let g : x .0 ≡ y .0 = some-same (x .0) (y .0) (sym (x .1) ∙ ap (λ i. getD ls i None) (slots a b e) ∙ y .1) in
+        sym (x .2) ∙ ap (λ (z : Line). z .block) g ∙ y .2;
     ousted = λ n k s b h e.
-      let x = line-of b h in
-      ap (mapped (λ (g : Line). g .block)) (ap (λ i. getD ls i None) (sym (slots b n e)) ∙ x .1) ∙ ap Some (x .2);
+        let x = line-of b h in
+        ap (mapped (λ (g : Line). g .block)) (ap (λ i. getD ls i None) (sym (slots b n e)) ∙ x .1) ∙ ap Some (x .2);
     spared = λ n k s h. go n h (at ls n) refl;
     untouched = λ n. refl;
   }

@@ -76,7 +76,14 @@ fn set_gives_out_the_least_recently_used(rt: LibcRuntime) -> Result<(), Fail> {
     // a look and a change are no use
     check_eq(tier.look(0), Some((0, 0, 1)))?;
     check_eq(tier.change(0, Mark::Modified, 7), Ok(()))?;
-    check_eq(tier.put(3, Mark::Shared, 3), Ok(Some(Line { block: 0, mark: Mark::Modified, stamp: 7 })))
+    check_eq(
+        tier.put(3, Mark::Shared, 3),
+        Ok(Some(Line {
+            block: 0,
+            mark: Mark::Modified,
+            stamp: 7,
+        })),
+    )
 }
 
 #[test]
@@ -117,8 +124,14 @@ fn pile_sinks_and_gives_out(rt: LibcRuntime) -> Result<(), Fail> {
 
 #[test]
 fn piles_stop_at_level_4(rt: LibcRuntime) -> Result<(), Fail> {
-    let upper = Pile::new(direct(rt.alloc(), 1)?, Pile::new(direct(rt.alloc(), 1)?, direct(rt.alloc(), 1)?));
-    let mut pile = Pile::new(upper, Pile::new(queue(rt.alloc(), 1)?, queue(rt.alloc(), 2)?));
+    let upper = Pile::new(
+        direct(rt.alloc(), 1)?,
+        Pile::new(direct(rt.alloc(), 1)?, direct(rt.alloc(), 1)?),
+    );
+    let mut pile = Pile::new(
+        upper,
+        Pile::new(queue(rt.alloc(), 1)?, queue(rt.alloc(), 2)?),
+    );
     check_eq(pile.depth(), 4)?;
     for block in 0..6 {
         check_eq(put(&mut pile, block)?, NONE)?;

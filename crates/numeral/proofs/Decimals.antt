@@ -79,10 +79,10 @@ backward n h =
     let fits : n < 2 ^ 64 = omega arith in
     let is = value-decimal own n fits in
     let lead : ((getD (decimal n) 0 0 ≡ 48) × (length (decimal n) ≤ 1)) ⊎ (getD (decimal n) 0 0 ≡ 48 → ⊥) =
-        ⊎-elim
-        (λ z. let d : decimal n ≡ 48 ∷ [] = ap decimal z ∙ decimal-digit 0 (omega arith) in inl (ap (λ l. getD l 0 0) d, omega (arith, ap length d)))
-        (λ z. inr (λ f. omega (arith, first-decimal n (omega arith) fits)))
-        (cases-eq n 0)
+    ⊎-elim
+    (λ z. let d : decimal n ≡ 48 ∷ [] = ap decimal z ∙ decimal-digit 0 (omega arith) in inl (ap (λ l. getD l 0 0) d, omega (arith, ap length d)))
+    (λ z. inr (λ f. omega (arith, first-decimal n (omega arith) fits)))
+    (cases-eq n 0)
     in
     let small : value 0 (decimal n) < 65536 = omega (arith, is) in
     plain (decimal n) (decimal-some n fits) lead ∙ written 0 (decimal n) (digits-decimal own n fits) small ∙ ap Ok is

@@ -43,20 +43,22 @@ module _ (m : TierMeaning) (ok : Lawful m) (n : ℕ) (k : Mark) (s : ℕ) (free 
   beside : (b : ℕ) → (b ≡ n → ⊥) → (o : Option Line) → outOf m n k s ≡ o → held m′ b ≡ cond (isBlock (mapped block o) b) false (held m b)
   beside b ne None e = same b ne (λ q. never b (sym (ap (mapped block) e) ∙ q))
   beside b ne (Some g) e = elim (ℕ-discrete (g .block) b) [
-      yes q ↦ ap (held m′) (sym q) ∙ ap isSome (ok [] .out-gone n k s g free e) ∙ sym (ap (λ t. cond t false (held m b)) (eq-eqb (g .block) b q)) |
-      no q ↦ same b ne (λ r. q (some-same (g .block) b (sym (ap (mapped block) e) ∙ r))) ∙ sym (ap (λ t. cond t false (held m b)) (ne-eqb (g .block) b q)) ]
+    | yes q ↦ ap (held m′) (sym q) ∙ ap isSome (ok [] .out-gone n k s g free e) ∙ sym (ap (λ t. cond t false (held m b)) (eq-eqb (g .block) b q))
+    | no q ↦ same b ne (λ r. q (some-same (g .block) b (sym (ap (mapped block) e) ∙ r))) ∙ sym (ap (λ t. cond t false (held m b)) (ne-eqb (g .block) b q))
+  ]
 
   given-out : given (putAnswer m n k s) ≡ mapped block (outOf m n k s)
   given-out = ap (λ o. given (ifHeld o (Err AlreadyHeld) (Ok (outOf m n k s)))) free
 
   pub put-noted : (cached : ℕ → Bool) (level : ℕ) → ((b : ℕ) → (b ≡ n → ⊥) → cached b ≡ held m b)
-    → (b : ℕ) → noted cached n (access level (given (putAnswer m n k s))) b ≡ held m′ b
+      → (b : ℕ) → noted cached n (access level (given (putAnswer m n k s))) b ≡ held m′ b
   put-noted cached level told b = elim (ℕ-discrete n b) [
-      yes q ↦ ap (λ t. cond t true (cond (isBlock (given (putAnswer m n k s)) b) false (cached b))) (eq-eqb n b q) ∙ sym (ap (held m′) (sym q) ∙ ap isSome (ok [] .put-in n k s free)) |
-      no q ↦ ap (λ t. cond t true (cond (isBlock (given (putAnswer m n k s)) b) false (cached b))) (ne-eqb n b q)
+    | yes q ↦ ap (λ t. cond t true (cond (isBlock (given (putAnswer m n k s)) b) false (cached b))) (eq-eqb n b q) ∙ sym (ap (held m′) (sym q) ∙ ap isSome (ok [] .put-in n k s free))
+    | no q ↦ ap (λ t. cond t true (cond (isBlock (given (putAnswer m n k s)) b) false (cached b))) (ne-eqb n b q)
         ∙ ap (λ o. cond (isBlock o b) false (cached b)) given-out
         ∙ ap (λ t. cond (isBlock (mapped block (outOf m n k s)) b) false t) (told b (λ z. q (sym z)))
-        ∙ sym (beside b (λ z. q (sym z)) (outOf m n k s) refl) ]
+        ∙ sym (beside b (λ z. q (sym z)) (outOf m n k s) refl)
+  ]
 
 -- ---- one access
 
@@ -85,8 +87,9 @@ module _ (m : TierMeaning) (ok : Lawful m) (n : ℕ) where
     lawful = λ cs. ok (touch n ∷ cs);
     hit = sym (is-some (lookOf m n) h e);
     noted-so = λ cached told b. elim (ℕ-discrete n b) [
-      yes q ↦ ap (λ t. cond t true (cached b)) (eq-eqb n b q) ∙ sym (ap isSome (ok [] .touch-look n b) ∙ ap (held m) (sym q) ∙ is-some (lookOf m n) h e) |
-      no q ↦ ap (λ t. cond t true (cached b)) (ne-eqb n b q) ∙ told b ∙ sym (ap isSome (ok [] .touch-look n b)) ];
+      | yes q ↦ ap (λ t. cond t true (cached b)) (eq-eqb n b q) ∙ sym (ap isSome (ok [] .touch-look n b) ∙ ap (held m) (sym q) ∙ is-some (lookOf m n) h e)
+      | no q ↦ ap (λ t. cond t true (cached b)) (ne-eqb n b q) ∙ told b ∙ sym (ap isSome (ok [] .touch-look n b))
+    ];
   }
 
   told-deep : (h : Holding) (k : Mark) → lookOf m n ≡ Some h → Told m n (raised m n (Some k) (h .1)) (access (h .2) (raisedOut m n (Some k) (h .1)))
@@ -96,8 +99,8 @@ module _ (m : TierMeaning) (ok : Lawful m) (n : ℕ) where
         lawful = λ cs. ok (take n ∷ (put n k (h .1) ∷ cs));
         hit = lt-ltb 0 (h .2) (omega arith) ∙ sym (is-some (lookOf m n) h e);
         noted-so = λ cached told b.
-          put-noted (after m (take n)) (λ cs. ok (take n ∷ cs)) n k (h .1) (ok [] .take-gone n) cached (h .2)
-          (λ i ne. told i ∙ sym (ap isSome (ok [] .take-rest n i ne))) b;
+            put-noted (after m (take n)) (λ cs. ok (take n ∷ cs)) n k (h .1) (ok [] .take-gone n) cached (h .2)
+            (λ i ne. told i ∙ sym (ap isSome (ok [] .take-rest n i ne))) b;
       }
 
   told-hit : (h : Holding) → lookOf m n ≡ Some h → Told m n (nextBy m n (Some h)) (answerBy m n (Some h))

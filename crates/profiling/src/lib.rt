@@ -123,6 +123,10 @@ impl<T: Tier> Profile<T> {
     pub fn served(&self, level: u8) -> u64
         ensures { λ r. ⌜ r ≡ countOf (now (self .entry) .counts) level ⌝ }
     {
-        if level < 5 { self.counts[usize::from(level)] } else { 0 }
+        if level < 5 {
+            self.counts[usize::from(level)]
+        } else {
+            0
+        }
     }
 }

@@ -43,8 +43,9 @@ rises-below f low (g ∷ gs) t h = let p = rises-below f (suc (f (g .block))) gs
 rises-found : (f : ℕ → ℕ) (low : ℕ) (ls : Ranks) (t b : ℕ) → Rises f low ls t → isSome (find ls b) ≡ true → low ≤ f b
 rises-found f low [] t b h e = let z : _≡_ {A = ℕ} 0 1 = cc in absurd (omega arith)
 rises-found f low (g ∷ gs) t b h e = elim (ℕ-discrete (g .block) b) [
-    yes q ↦ subst (λ (i : ℕ). low ≤ f i) q (h .0) |
-    no q ↦ (let p = rises-found f (suc (f (g .block))) gs t b (h .1) (sym (ap (λ x. isSome (cond x (Some g) (find gs b))) (ne-eqb (g .block) b q)) ∙ e) in let r = h .0 in omega arith) ]
+  | yes q ↦ subst (λ (i : ℕ). low ≤ f i) q (h .0)
+  | no q ↦ (let p = rises-found f (suc (f (g .block))) gs t b (h .1) (sym (ap (λ x. isSome (cond x (Some g) (find gs b))) (ne-eqb (g .block) b q)) ∙ e) in let r = h .0 in omega arith)
+]
 
 rises-without : (f : ℕ → ℕ) (low : ℕ) (ls : Ranks) (t n : ℕ) → Rises f low ls t → Rises f low (without ls n) t
 rises-without f low [] t n h = h
@@ -105,7 +106,7 @@ abbrev told : Bool → TierMeaning → TierCall → ℕ → (ℕ → ℕ) → �
 told renews m c t f b = cond (uses renews m c b) t (f b)
 
 pub rises-step : (renews : Bool) (ways : ℕ) (ls : Ranks) (f : ℕ → ℕ) (t : ℕ) → Sound ls → Rises f 0 ls t → (c : TierCall)
-  → Rises (told renews (ranked renews ways ls) c t f) 0 (rankedStep renews ways ls c) (suc t)
+    → Rises (told renews (ranked renews ways ls) c t f) 0 (rankedStep renews ways ls c) (suc t)
 rises-step renews ways ls f t ok h (put n k s) = go (find ls n) refl
   where
     go : (o : Option Line) → find ls n ≡ o → Rises (λ b. cond (ifHeld (mapped holding o) false (eqb n b)) t (f b)) 0 (ifFound o ls (spared ways ls ++ line n k s ∷ [])) (suc t)
@@ -148,8 +149,8 @@ found-held ls b = go (find ls b)
 
 module _ (renews : Bool) (ways : ℕ) where
   last-first : (cs : List TierCall) (ls : Ranks) (f : ℕ → ℕ) (t : ℕ) → Sound ls → Rises f 0 ls t → (n : ℕ) (k : Mark) (s : ℕ) (g : Line)
-    → outOf (reach (ranked renews ways ls) cs) n k s ≡ Some g → (b : ℕ) → isSome (lookOf (reach (ranked renews ways ls) cs) b) ≡ true → (b ≡ g .block → ⊥)
-    → lastUse renews (ranked renews ways ls) cs t f (g .block) < lastUse renews (ranked renews ways ls) cs t f b
+      → outOf (reach (ranked renews ways ls) cs) n k s ≡ Some g → (b : ℕ) → isSome (lookOf (reach (ranked renews ways ls) cs) b) ≡ true → (b ≡ g .block → ⊥)
+      → lastUse renews (ranked renews ways ls) cs t f (g .block) < lastUse renews (ranked renews ways ls) cs t f b
   last-first [] ls f t ok h n k s g o b held ne = oldest-first f ls t g b h (ousted-oldest ways ls g o) (found-held ls b held) ne
   last-first (c ∷ cs) ls f t ok h n k s g o b held ne =
       last-first cs (rankedStep renews ways ls c) _ (suc t) (keeps renews ways ls ok c) (rises-step renews ways ls f t ok h c) n k s g o b held ne

@@ -109,8 +109,9 @@ module _ (renews : Bool) (ways : ℕ) (ls : Ranks) (ok : Sound ls) where
       go true (Some g) e =
           let q = find-block ls n g e in
           elim (ℕ-discrete b n) [
-            yes h ↦ ap (mapped holding) (ap (find (without ls n ++ g ∷ [])) (h ∙ sym q) ∙ find-push (without ls n) g (ap (find (without ls n)) q ∙ find-gone ls n ok) ∙ sym (ap (find ls) h ∙ e)) |
-            no h ↦ ap (mapped holding) (find-push-other (without ls n) g b (λ z. h (z ∙ q)) ∙ find-without ls n b h) ]
+            | yes h ↦ ap (mapped holding) (ap (find (without ls n ++ g ∷ [])) (h ∙ sym q) ∙ find-push (without ls n) g (ap (find (without ls n)) q ∙ find-gone ls n ok) ∙ sym (ap (find ls) h ∙ e))
+            | no h ↦ ap (mapped holding) (find-push-other (without ls n) g b (λ z. h (z ∙ q)) ∙ find-without ls n b h)
+          ]
 
   touch-free : (n : ℕ) → find ls n ≡ None → rankedStep renews ways ls (touch n) ≡ ls
   touch-free n e = ap (touched renews ls n) e ∙ go renews
@@ -126,26 +127,26 @@ module _ (renews : Bool) (ways : ℕ) (ls : Ranks) (ok : Sound ls) where
     marks = λ n h e. let r = look-some ls n h e in subst (λ (x : Holding). x .0 ≤ 1) (r .2) (mark-low (r .0 .mark));
     levels = λ n h e. let r = look-some ls n h e in let q : 1 ≡ h .2 = ap (λ (x : Holding). x .2) (r .2) in (omega arith, omega arith);
     put-in = λ n k s e.
-      let f = look-none ls n e in
-      ap (λ ms. look ms n) (put-next n k s f) ∙ ap (mapped holding) (find-push (spared ways ls) (line n k s) (spare-none free ls n f));
+        let f = look-none ls n e in
+        ap (λ ms. look ms n) (put-next n k s f) ∙ ap (mapped holding) (find-push (spared ways ls) (line n k s) (spare-none free ls n f));
     put-rest = λ n k s b e ne no-out. ap bare (put-other n k s b (look-none ls n e) ne ∙ ap (mapped holding) (spare-rest free ls b no-out));
     out-held = λ n k s g e o. ap (λ x. bare (mapped holding x)) (oust-found free ls g o);
     out-gone = λ n k s g e o.
-      let f = look-none ls n e in
-      let ne : g .block ≡ n → ⊥ = λ q. none-some (find ls n) g f (ap (find ls) (sym q) ∙ oust-found free ls g o) in
-      put-other n k s (g .block) f ne ∙ ap (mapped holding) (oust-gone free ls g ok o);
+        let f = look-none ls n e in
+        let ne : g .block ≡ n → ⊥ = λ q. none-some (find ls n) g f (ap (find ls) (sym q) ∙ oust-found free ls g o) in
+        put-other n k s (g .block) f ne ∙ ap (mapped holding) (oust-gone free ls g ok o);
     take-gone = λ n. ap (mapped holding) (find-gone ls n ok);
     take-rest = λ n b ne. ap (mapped holding) (find-without ls n b ne);
     change-in = λ n k s h e.
-      let r = look-some ls n h e in
-      ap (mapped holding) (find-renewed ls (line n k s) (r .0) (r .1)) ∙ ap (λ (x : Holding). Some (markNumber k, s, x .2)) (r .2);
+        let r = look-some ls n h e in
+        ap (mapped holding) (find-renewed ls (line n k s) (r .0) (r .1)) ∙ ap (λ (x : Holding). Some (markNumber k, s, x .2)) (r .2);
     change-rest = λ n k s b ne. ap (mapped holding) (find-renewed-other ls (line n k s) b ne);
     touch-look = touch-look;
     clear-gone = λ n. refl;
     put-held = λ n k s h.
-      let x = some-of (look ls n) h in
-      let r = look-some ls n (x .0) (x .1) in
-      ap (ranked renews ways) (ap (λ o. ifFound o ls (spared ways ls ++ line n k s ∷ [])) (r .1));
+        let x = some-of (look ls n) h in
+        let r = look-some ls n (x .0) (x .1) in
+        ap (ranked renews ways) (ap (λ o. ifFound o ls (spared ways ls ++ line n k s ∷ [])) (r .1));
     take-free = λ n e. ap (ranked renews ways) (sym (without-none ls n (look-none ls n e)));
     change-free = λ n k s e. ap (ranked renews ways) (renewed-none ls (line n k s) (look-none ls n e));
     touch-free = λ n e. ap (ranked renews ways) (touch-free n (look-none ls n e));

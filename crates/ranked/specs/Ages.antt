@@ -29,5 +29,5 @@ lastUse renews m (c ∷ cs) t before = lastUse renews (after m c) cs (suc t) (λ
 pub record OldestLeaves (renews : Bool) (sets : ℕ) (m : TierMeaning) : Type 0 where
   pub of-set : (cs : List TierCall) (n : ℕ) (k : Mark) (s : ℕ) (g : Line) → lookOf (reach m cs) n ≡ None → outOf (reach m cs) n k s ≡ Some g → g .block % sets ≡ n % sets
   pub longest : (cs : List TierCall) (n : ℕ) (k : Mark) (s : ℕ) (g : Line) → lookOf (reach m cs) n ≡ None → outOf (reach m cs) n k s ≡ Some g
-    → (b : ℕ) → isSome (lookOf (reach m cs) b) ≡ true → b % sets ≡ n % sets → (b ≡ g .block → ⊥)
-    → lastUse renews m cs 1 (λ _. 0) (g .block) < lastUse renews m cs 1 (λ _. 0) b
+      → (b : ℕ) → isSome (lookOf (reach m cs) b) ≡ true → b % sets ≡ n % sets → (b ≡ g .block → ⊥)
+      → lastUse renews m cs 1 (λ _. 0) (g .block) < lastUse renews m cs 1 (λ _. 0) b

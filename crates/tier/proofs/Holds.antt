@@ -40,5 +40,6 @@ module _ (m : TierMeaning) (ok : Lawful m) where
       go (Some x) w e q = sym (ap (λ y. isSome (lookOf y b)) (ok [] .put-held n k s (is-some (lookOf m n) x e))) ∙ h
       go None None e q = kept e (λ r. never b (sym (ap (mapped (λ (g : Line). g .block)) q) ∙ r))
       go None (Some g) e q = elim (ℕ-discrete (g .block) b) [
-        yes z ↦ never _ (sym (ap (lookOf (after m (put n k s))) (sym z) ∙ ok [] .out-gone n k s g e q) ∙ some-of (lookOf (after m (put n k s)) b) h .1) |
-        no z ↦ kept e (λ r. z (some-same (g .block) b (sym (ap (mapped (λ (x : Line). x .block)) q) ∙ r))) ]
+        | yes z ↦ never _ (sym (ap (lookOf (after m (put n k s))) (sym z) ∙ ok [] .out-gone n k s g e q) ∙ some-of (lookOf (after m (put n k s)) b) h .1)
+        | no z ↦ kept e (λ r. z (some-same (g .block) b (sym (ap (mapped (λ (x : Line). x .block)) q) ∙ r)))
+      ]

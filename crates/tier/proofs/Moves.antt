@@ -14,6 +14,6 @@ use Rattle.tier.specs.Meaning.{TierMeaning, take, outOf, ifHeld, putAnswer, La
 
 -- its put is not refused
 pub put-taken : (m m′ : TierMeaning) (n : ℕ) (k : Mark) (s : ℕ) (r : Result (Option Line) Refusal)
-  → Lawful m → m′ ≡ after m (take n) → r ≡ putAnswer m′ n k s → r ≡ Ok (outOf (after m (take n)) n k s)
+    → Lawful m → m′ ≡ after m (take n) → r ≡ putAnswer m′ n k s → r ≡ Ok (outOf (after m (take n)) n k s)
 put-taken m m′ n k s r h e q =
     q ∙ ap (λ i. putAnswer i n k s) e ∙ ap (λ o. ifHeld o (Err AlreadyHeld) (Ok (outOf (after m (take n)) n k s))) (h [] .take-gone n)

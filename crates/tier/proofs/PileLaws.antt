@@ -170,11 +170,12 @@ module _ (p : Parts) (ok : Sound p) where
       lower-same b ng nw = ht .put-rest (g .block) (g .mark) (g .stamp) b room ng nw ∙ ap bare (hl .take-rest (g .block) b ng)
 
       beside : (b : ℕ) → (b ≡ n → ⊥) → (b ≡ g .block → ⊥) → (mapped block (unlessHeld u′ away) ≡ Some b → ⊥)
-        → (o : Option Line) → away ≡ o → bare (first d (lookOf u′ b) (lookOf laid b)) ≡ bare (pileLook p b)
+          → (o : Option Line) → away ≡ o → bare (first d (lookOf u′ b) (lookOf laid b)) ≡ bare (pileLook p b)
       beside b nn ng nw None e = bare-first d _ _ _ _ (upper-same b nn ng) (lower-same b ng (λ q. never b (sym (ap (mapped block) e) ∙ q)))
       beside b nn ng nw (Some x) e = elim (ℕ-discrete (x .block) b) [
-          no q ↦ bare-first d _ _ _ _ (upper-same b nn ng) (lower-same b ng (λ r. q (some-same (x .block) b (sym (ap (mapped block) e) ∙ r)))) |
-          yes q ↦ kept q (lookOf u′ b) refl ]
+        | no q ↦ bare-first d _ _ _ _ (upper-same b nn ng) (lower-same b ng (λ r. q (some-same (x .block) b (sym (ap (mapped block) e) ∙ r))))
+        | yes q ↦ kept q (lookOf u′ b) refl
+      ]
         where
           -- the block that the lower gives out stays in the pile, since the upper holds it
           kept : x .block ≡ b → (h : Option Holding) → lookOf u′ b ≡ h → bare (first d (lookOf u′ b) (lookOf laid b)) ≡ bare (pileLook p b)
@@ -209,8 +210,9 @@ module _ (p : Parts) (ok : Sound p) where
         go : (o : Option Line) → outOf u n k s ≡ o → (mapped block (unlessHeld u′ (sunk l o)) ≡ Some b → ⊥) → bare (first d (lookOf u′ b) (lookOf (sink l o) b)) ≡ bare (pileLook p b)
         go None e w = bare-first d _ _ (lookOf l b) (lookOf l b) (hu .put-rest n k s b fu nn (λ q. never b (sym (ap (mapped block) e) ∙ q))) refl
         go (Some g) e w = elim (ℕ-discrete b (g .block)) [
-            yes q ↦ ap (λ i. bare (first d (lookOf u′ i) (lookOf (laid g e) i))) q ∙ fallen-same g e ∙ ap (λ i. bare (pileLook p i)) (sym q) |
-            no q ↦ beside g e b nn q w (away g e) refl ]
+          | yes q ↦ ap (λ i. bare (first d (lookOf u′ i) (lookOf (laid g e) i))) q ∙ fallen-same g e ∙ ap (λ i. bare (pileLook p i)) (sym q)
+          | no q ↦ beside g e b nn q w (away g e) refl
+        ]
 
     out-held : (x : Line) → pileOut p n k s ≡ Some x → bare (pileLook p (x .block)) ≡ Some (markNumber (x .mark), x .stamp)
     out-held x = go (outOf u n k s) refl
@@ -246,7 +248,7 @@ module _ (p : Parts) (ok : Sound p) where
   change-in n k s h = go (lookOf u n) (lookOf l n) refl refl
     where
       go : (a b : Option Holding) → lookOf u n ≡ a → lookOf l n ≡ b → first d a b ≡ Some h
-        → pileLook (ifHeld a (parts (after u (change n k s)) l) (parts u (after l (change n k s)))) n ≡ Some (markNumber k, s, h .2)
+          → pileLook (ifHeld a (parts (after u (change n k s)) l) (parts u (after l (change n k s)))) n ≡ Some (markNumber k, s, h .2)
       go None None pa pb r = never h r
       go None (Some y) pa pb r =
           first-same d (lookOf u n) None _ _ pa (hl .change-in n k s y pb)
@@ -256,7 +258,7 @@ module _ (p : Parts) (ok : Sound p) where
           ∙ ap (λ (z : Holding). Some (markNumber k, s, z .2)) (some-same y h r)
 
   rest-of : (o : Option Holding) (c : TierCall) (b : ℕ) → lookOf (after u c) b ≡ lookOf u b → lookOf (after l c) b ≡ lookOf l b
-    → pileLook (ifHeld o (parts (after u c) l) (parts u (after l c))) b ≡ pileLook p b
+      → pileLook (ifHeld o (parts (after u c) l) (parts u (after l c))) b ≡ pileLook p b
   rest-of None c b eu el = ap (first d (lookOf u b)) el
   rest-of (Some x) c b eu el = ap (λ a. first d a (lookOf l b)) eu
 
@@ -265,30 +267,30 @@ module _ (p : Parts) (ok : Sound p) where
 
   laws : TierLaws (at p)
   laws =
-    let lowu = hu .depth-low in
-    let lowl = hl .depth-low in
-    record {
-      depth-low = omega arith;
-      depth-high = omega arith;
-      marks = λ n h e. shown n h e .0;
-      levels = λ n h e. (shown n h e .1, shown n h e .2);
-      put-in = λ n k s e. ap (λ q. pileLook q n) (put-next n k s e) ∙ put-in n k s e;
-      put-rest = λ n k s b e nn nw. ap (λ q. bare (pileLook q b)) (put-next n k s e) ∙ put-rest n k s e b nn nw;
-      out-held = λ n k s g e o. out-held n k s e g o;
-      out-gone = λ n k s g e o. ap (λ q. pileLook q (g .block)) (put-next n k s e) ∙ out-gone n k s e g o;
-      take-gone = λ n. first-same d _ None _ None (hu .take-gone n) (hl .take-gone n);
-      take-rest = λ n b ne. first-same d _ _ _ _ (hu .take-rest n b ne) (hl .take-rest n b ne);
-      change-in = change-in;
-      change-rest = λ n k s b ne. rest-of (lookOf u n) (change n k s) b (hu .change-rest n k s b ne) (hl .change-rest n k s b ne);
-      touch-look = λ n b. rest-of (lookOf u n) (touch n) b (hu .touch-look n b) (hl .touch-look n b);
-      clear-gone = λ n. first-same d _ None _ None (hu .clear-gone n) (hl .clear-gone n);
-      put-held = λ n k s h. same-after p (put n k s) (held-some (pileLook p n) _ _ h);
-      take-free = λ n e.
-        let r = both-none d (lookOf u n) (lookOf l n) e in
-        same-after p (take n) (ap (λ m. parts m (after l (take n))) (hu .take-free n (r .0)) ∙ ap (parts u) (hl .take-free n (r .1)));
-      change-free = λ n k s e. same-after p (change n k s) (free-of n (change n k s) e (hl .change-free n k s));
-      touch-free = λ n e. same-after p (touch n) (free-of n (touch n) e (hl .touch-free n));
-    }
+      let lowu = hu .depth-low in
+      let lowl = hl .depth-low in
+      record {
+        depth-low = omega arith;
+        depth-high = omega arith;
+        marks = λ n h e. shown n h e .0;
+        levels = λ n h e. (shown n h e .1, shown n h e .2);
+        put-in = λ n k s e. ap (λ q. pileLook q n) (put-next n k s e) ∙ put-in n k s e;
+        put-rest = λ n k s b e nn nw. ap (λ q. bare (pileLook q b)) (put-next n k s e) ∙ put-rest n k s e b nn nw;
+        out-held = λ n k s g e o. out-held n k s e g o;
+        out-gone = λ n k s g e o. ap (λ q. pileLook q (g .block)) (put-next n k s e) ∙ out-gone n k s e g o;
+        take-gone = λ n. first-same d _ None _ None (hu .take-gone n) (hl .take-gone n);
+        take-rest = λ n b ne. first-same d _ _ _ _ (hu .take-rest n b ne) (hl .take-rest n b ne);
+        change-in = change-in;
+        change-rest = λ n k s b ne. rest-of (lookOf u n) (change n k s) b (hu .change-rest n k s b ne) (hl .change-rest n k s b ne);
+        touch-look = λ n b. rest-of (lookOf u n) (touch n) b (hu .touch-look n b) (hl .touch-look n b);
+        clear-gone = λ n. first-same d _ None _ None (hu .clear-gone n) (hl .clear-gone n);
+        put-held = λ n k s h. same-after p (put n k s) (held-some (pileLook p n) _ _ h);
+        take-free = λ n e.
+            let r = both-none d (lookOf u n) (lookOf l n) e in
+            same-after p (take n) (ap (λ m. parts m (after l (take n))) (hu .take-free n (r .0)) ∙ ap (parts u) (hl .take-free n (r .1)));
+        change-free = λ n k s e. same-after p (change n k s) (free-of n (change n k s) e (hl .change-free n k s));
+        touch-free = λ n e. same-after p (touch n) (free-of n (touch n) e (hl .touch-free n));
+      }
 
 pub pile-lawful : (u l : TierMeaning) → Lawful u → Lawful l → Lawful (pile u l)
 pile-lawful u l hu hl = device-always pileDepth pileView pileStep stays TierLaws Sound (λ p c i. keeps p i c) laws (parts u l) (hu, hl)

@@ -39,8 +39,9 @@ module _ (p : Parts) (ok : Sound p) (apart : Apart p) where
 
   apart-take : (n : ℕ) → Apart (pileStep p (take n))
   apart-take n b h = elim (ℕ-discrete b n) [
-      yes q ↦ ap (lookOf (after l (take n))) q ∙ ok .1 [] .take-gone n |
-      no q ↦ ok .1 [] .take-rest n b q ∙ apart b (sym (ap isSome (ok .0 [] .take-rest n b q)) ∙ h) ]
+    | yes q ↦ ap (lookOf (after l (take n))) q ∙ ok .1 [] .take-gone n
+    | no q ↦ ok .1 [] .take-rest n b q ∙ apart b (sym (ap isSome (ok .0 [] .take-rest n b q)) ∙ h)
+  ]
 
   module _ (n : ℕ) (k : Mark) (s : ℕ) (free : pileLook p n ≡ None) where
     abbrev u′ : TierMeaning
@@ -49,8 +50,9 @@ module _ (p : Parts) (ok : Sound p) (apart : Apart p) where
     -- of a block that the upper holds after the put, the lower held nothing before
     was-free : (b : ℕ) → isSome (lookOf u′ b) ≡ true → ((b ≡ n → ⊥) → bare (lookOf u′ b) ≡ bare (lookOf u b)) → lookOf l b ≡ None
     was-free b h same = elim (ℕ-discrete b n) [
-        yes q ↦ ap (lookOf l) q ∙ both-none (depthOf u) (lookOf u n) (lookOf l n) free .1 |
-        no q ↦ apart b (sym (bare-held (lookOf u b)) ∙ sym (ap isSome (same q)) ∙ bare-held (lookOf u′ b) ∙ h) ]
+      | yes q ↦ ap (lookOf l) q ∙ both-none (depthOf u) (lookOf u n) (lookOf l n) free .1
+      | no q ↦ apart b (sym (bare-held (lookOf u b)) ∙ sym (ap isSome (same q)) ∙ bare-held (lookOf u′ b) ∙ h)
+    ]
 
     module _ (g : Line) (fell : outOf u n k s ≡ Some g) where
       abbrev taken : TierMeaning

@@ -74,7 +74,7 @@ pub record TierLaws (m : TierMeaning) : Type 0 where
   pub put-in : (n : ℕ) (k : Mark) (s : ℕ) → lookOf m n ≡ None → lookOf (after m (put n k s)) n ≡ Some (markNumber k, s, 1)
   -- all others but the one given out keep mark and stamp
   pub put-rest : (n : ℕ) (k : Mark) (s b : ℕ) → lookOf m n ≡ None → (b ≡ n → ⊥) → (mapped (λ (g : Line). g .block) (outOf m n k s) ≡ Some b → ⊥)
-    → bare (lookOf (after m (put n k s)) b) ≡ bare (lookOf m b)
+      → bare (lookOf (after m (put n k s)) b) ≡ bare (lookOf m b)
   -- what is given out was held with that mark and stamp, and is held no more
   pub out-held : (n : ℕ) (k : Mark) (s : ℕ) (g : Line) → lookOf m n ≡ None → outOf m n k s ≡ Some g → bare (lookOf m (g .block)) ≡ Some (markNumber (g .mark), g .stamp)
   pub out-gone : (n : ℕ) (k : Mark) (s : ℕ) (g : Line) → lookOf m n ≡ None → outOf m n k s ≡ Some g → lookOf (after m (put n k s)) (g .block) ≡ None

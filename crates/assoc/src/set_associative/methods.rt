@@ -34,14 +34,22 @@ pub const MOST_WAYS: usize = 4;
 impl SetAssociative {
     /// An empty tier of 1 to 16 sets of 1 to 4 ways. Block n belongs to set n mod `sets`; a put into a full set gives out the
     /// block of that set that was put or touched longest ago.
-    pub fn new(heap: Global, sets: usize, ways: usize) -> Result<SetAssociative, BuildError<SetAssociative>>
+    pub fn new(
+        heap: Global,
+        sets: usize,
+        ways: usize,
+    ) -> Result<SetAssociative, BuildError<SetAssociative>>
         ensures built { λ r. ⌜ Builds meaningOf r (built sets ways) ⌝ }
         ensures law { λ r. ⌜ made r (λ t. OldestLeaves true sets (meaningOf t)) ⌝ }
     {
         SetAssociative::sized(heap, sets, ways)
     }
 
-    fn sized(heap: Global, sets: usize, ways: usize) -> Result<SetAssociative, BuildError<SetAssociative>>
+    fn sized(
+        heap: Global,
+        sets: usize,
+        ways: usize,
+    ) -> Result<SetAssociative, BuildError<SetAssociative>>
         ensures { λ r. ⌜ Builds meaningOf r (built sets ways) ⌝ }
     {
         if sets < 1 || sets > MOST_SETS || ways < 1 || ways > MOST_WAYS {
@@ -97,7 +105,13 @@ impl SetAssociative {
         self.sets[set].look(block)
     }
 
-    fn put_in(&mut self, set: usize, block: u16, mark: Mark, stamp: u32) -> Result<Option<Line>, Refusal>
+    fn put_in(
+        &mut self,
+        set: usize,
+        block: u16,
+        mark: Mark,
+        stamp: u32,
+    ) -> Result<Option<Line>, Refusal>
         requires { ⌜ set ≡ index (setsOf (now self)) block ⌝ }
         ensures answer { λ r. ⌜ r ≡ putAnswer (nth (setsOf (now (self .entry))) set) block mark stamp ⌝ }
         ensures next { λ _. ⌜ setsOf (now (self .exit)) ≡ called (setsOf (now (self .entry))) set (put block mark stamp) ⌝ }

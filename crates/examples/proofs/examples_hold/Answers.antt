@@ -4,11 +4,14 @@ use Prim.Native.Nat.{min, _-_}
 use Rattle.examples.proofs.examples_hold.Needs as need
 
 pub returns : need.returns
-returns c = (refl, record {
-  direct-two = refl;
-  set-touched = refl;
-  queue-touched = refl;
-  pile-out = refl;
-  pile-level = refl;
-  window-short = λ m e. ap (λ n. min 10 (n - 4)) e;
-})
+returns c = (
+  refl,
+  record {
+    direct-two = refl;
+    set-touched = refl;
+    queue-touched = refl;
+    pile-out = refl;
+    pile-level = refl;
+    window-short = λ m e. ap (λ n. min 10 (n - 4)) e;
+  },
+)

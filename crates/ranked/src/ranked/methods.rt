@@ -24,7 +24,11 @@ pub const MOST_WAYS: usize = 16;
 
 impl<P: Replacement + Drop> Ranked<P> {
     /// An empty tier of 1 to 16 ways.
-    pub fn with_policy(heap: Global, policy: P, ways: usize) -> Result<Ranked<P>, BuildError<Ranked<P>>>
+    pub fn with_policy(
+        heap: Global,
+        policy: P,
+        ways: usize,
+    ) -> Result<Ranked<P>, BuildError<Ranked<P>>>
         ensures { λ r. ⌜ Builds (rankedOf (P·Replacement .renewing)) r (built (P·Replacement .renewing policy) ways) ⌝ }
     {
         if ways < 1 || ways > MOST_WAYS {

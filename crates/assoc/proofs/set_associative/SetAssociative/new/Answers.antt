@@ -20,5 +20,5 @@ returns c =
     record {
       built = c .sized .ensures;
       law = builds-made meaningOf (OldestLeaves true sets) (within 1 16 sets && within 1 4 ways) (setAssociative (empty sets ways)) (setAssociative (empty 1 1)) (c .sized .result) (c .sized .ensures)
-        (λ e. oldest-leaves sets ways (within-low 1 16 sets (both-first (within 1 16 sets) (within 1 4 ways) e)));
+          (λ e. oldest-leaves sets ways (within-low 1 16 sets (both-first (within 1 16 sets) (within 1 4 ways) e)));
     }

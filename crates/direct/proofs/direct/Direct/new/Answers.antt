@@ -14,5 +14,5 @@ returns c =
     record {
       built = c .sized .ensures;
       law = builds-made directOf (Always (DirectMapped lines)) (within 1 64 lines) (direct (empty lines)) (direct (empty 1)) (c .sized .result) (c .sized .ensures)
-        (λ e. direct-mapped lines (within-low 1 64 lines e));
+          (λ e. direct-mapped lines (within-low 1 64 lines e));
     }
