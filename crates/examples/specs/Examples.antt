@@ -9,12 +9,12 @@ use Rattle.device.specs.Device.{reach}
 use Rattle.tier.specs.declared.mark.Mark.the-variants.{Shared, Modified}
 use Rattle.tier.specs.declared.line.Line.{Line}
 use Rattle.tier.specs.Meaning.{TierMeaning, TierCall, put, touch, line, lookOf, outOf}
-use Rattle.tier.specs.Pile.{pile}
+use Rattle.pile.specs.Pile.{pile}
 use Rattle.direct.specs.Lines.{direct, empty}
 use Rattle.ranked.specs.Ranks.{ranked}
 use Rattle.assoc.specs.Sets.{setAssociative, empty as empty-sets}
 use Rattle.memory.specs.Meaning.{MemoryMeaning, sizeOf}
-use Rattle.composed.specs.Window.{window}
+use Rattle.window.specs.Window.{window}
 
 -- what a put of block n gives out, once the calls were made
 abbrev pub givesOut : TierMeaning → List TierCall → ℕ → Option Line

@@ -6,6 +6,12 @@ ghost use Rattle.examples.specs.Examples.{Examples};
 pub fn examples_hold() -> u8
     ensures { λ r. ⌜ (r ≡ 6) × Examples ⌝ }
 {
+    count()
+}
+
+fn count() -> u8
+    ensures { λ r. ⌜ r ≡ 6 ⌝ }
+{
     6
 }
 

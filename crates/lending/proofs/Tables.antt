@@ -12,7 +12,7 @@ use Rattle.memory.specs.declared.cell.State.the-variants.{Valid, Stale}
 use Rattle.memory.specs.Meaning.{store, stale, lentOf}
 use Rattle.memory.specs.Flat.{noCell, flatStep, flat}
 use Rattle.memory.specs.FlatLaws.{lent-same}
-use Rattle.composed.specs.Window.{window}
+use Rattle.window.specs.Window.{window}
 use Rattle.lending.specs.Retired.{retired, retiredIn}
 
 steps-retired : (t : List Cell) (n s : ℕ) → flatStep (flatStep t (store n s)) (stale n) ≡ retired t n s

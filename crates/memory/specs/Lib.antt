@@ -2,3 +2,4 @@ pub mod Meaning
 pub mod Refusals
 pub mod Flat
 pub mod FlatLaws
+pub mod Calls

@@ -8,7 +8,6 @@ use crate::refusal::Refusal;
 
 pub mod line;
 pub mod mark;
-pub mod pile;
 pub mod refusal;
 
 pub trait Tier {

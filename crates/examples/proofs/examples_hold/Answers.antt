@@ -5,7 +5,7 @@ use Rattle.examples.proofs.examples_hold.Needs as need
 
 pub returns : need.returns
 returns c = (
-  refl,
+  c .count .ensures,
   record {
     direct-two = refl;
     set-touched = refl;

@@ -1,4 +1,0 @@
-//! Memories made of memories.
-
-pub mod interleaved;
-pub mod window;
