@@ -190,7 +190,11 @@ fn refusal<T: Tier + Drop>(answer: Result<T, BuildError<T>>) -> u8 {
                 BuildError::BadSize(tier) => {
                     let mut tier = tier;
                     let steps = [Step::Put(0, None), Step::Put(1, Some(0))];
-                    if first_wrong(&mut tier, &steps) == 0 { number } else { 255 }
+                    if first_wrong(&mut tier, &steps) == 0 {
+                        number
+                    } else {
+                        255
+                    }
                 }
                 BuildError::NoMemory => 255,
             }

@@ -4,13 +4,13 @@ ghost use denote.Ref.{name};
 ghost use Rattle.device.specs.Device.{after};
 ghost use Rattle.memory.specs.Meaning.{store, stale};
 ghost use Rattle.lending.specs.Retired.{retired, retiredIn};
-use window::Window;
-use window::WindowMemory;
 use memory::Memory;
 use memory::cell::Cell;
 use memory::flat::Flat;
 use memory::flat::FlatMemory;
 use memory::flat::RefusedTable;
+use window::Window;
+use window::WindowMemory;
 
 /// Stores a last stamp in a block of any memory, and makes the block stale.
 pub fn retire<M: Memory>(memory: &mut M, block: u16, stamp: u32)

@@ -8,6 +8,7 @@ ghost use Rattle.tier.specs.Marks.{markOf};
 ghost use Rattle.tier.specs.Meaning.{clear, put, depthOf, putAnswer};
 ghost use Rattle.profiling.specs.Access.{given, raised, raisedOut, accessed, answer, counted, countOf};
 ghost use Rattle.profiling.specs.Resident.{HitsTold};
+ghost use Rattle.profiling.specs.Tallies.{CountsAll};
 use tier::Tier;
 use tier::mark::Mark;
 
@@ -78,11 +79,12 @@ fn serve<T: Tier>(tier: &mut T, block: u16) -> Access
 
 impl<T: Tier> Profile<T> {
     /// The profile of a core whose caches are cleared. From then on an access hits just where its block was accessed before and
-    /// has not left since.
+    /// has not left since, and each level's count is the number of accesses that it served.
     pub fn new(tier: T) -> Profile<T>
         ensures tier { λ r. ⌜ T·Tier .meaning (r .tier) ≡ after (T·Tier .meaning tier) clear ⌝ }
         ensures counts { λ r. ⌜ r .counts ≡ 0 ∷ 0 ∷ 0 ∷ 0 ∷ 0 ∷ [] ⌝ }
         ensures law { λ r. ⌜ ((ns : List ℕ) → HitsTold (T·Tier .meaning (r .tier)) (λ _. false) ns) ⌝ }
+        ensures tally { λ r. ⌜ CountsAll (T·Tier .meaning (r .tier)) (r .counts) ⌝ }
     {
         Profile::idle(tier)
     }
