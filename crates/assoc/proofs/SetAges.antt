@@ -13,8 +13,8 @@ use Rattle.std.specs.Options.{isSome, mapped}
 use Rattle.std.specs.declared.option.Option.{Option}
 use Rattle.std.specs.declared.option.Option.the-variants.{None, Some}
 use Rattle.device.specs.Device.{after, reach}
-use Rattle.tier.specs.declared.mark.Mark.{Mark}
-use Rattle.tier.specs.declared.line.Line.{Line}
+use Rattle.parts.specs.declared.mark.Mark.{Mark}
+use Rattle.parts.specs.declared.line.Line.{Line}
 use Rattle.tier.specs.Meaning.{TierMeaning, TierCall, put, take, change, touch, clear, Holding, ifHeld, lookOf, outOf, Lawful}
 use Rattle.ranked.specs.Ranks.{Ranks, find, holding, rankedStep, ranked}
 use Rattle.ranked.specs.Ages.{uses, lastUse, OldestLeaves}

@@ -15,8 +15,8 @@ use Rattle.std.specs.declared.option.Option.{Option}
 use Rattle.std.specs.declared.option.Option.the-variants.{None, Some}
 use Rattle.device.specs.Device.{after}
 use Rattle.device.specs.Laws.{device-always}
-use Rattle.tier.specs.declared.mark.Mark.{Mark}
-use Rattle.tier.specs.declared.line.Line.{Line}
+use Rattle.parts.specs.declared.mark.Mark.{Mark}
+use Rattle.parts.specs.declared.line.Line.{Line}
 use Rattle.tier.specs.Meaning.{TierMeaning, TierCall, put, take, change, touch, clear, Holding, lookOf, outOf, bare, TierLaws, Lawful}
 use Rattle.tier.proofs.Options.{never, some-of}
 use Rattle.tier.proofs.Holdings.{bare-held}

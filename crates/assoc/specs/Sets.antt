@@ -7,7 +7,7 @@ use lib.ListN.{length, getD, set, replicate}
 use Rattle.std.specs.Options.{isSome}
 use Rattle.std.specs.declared.result.Result.{Result}
 use Rattle.device.specs.Device.{after, device}
-use Rattle.tier.specs.declared.refusal.BuildError.{BuildError}
+use Rattle.parts.specs.declared.refusal.BuildError.{BuildError}
 use Rattle.tier.specs.Meaning.{TierMeaning, TierView, TierCall, put, take, change, touch, clear, lookOf, outOf}
 use Rattle.tier.specs.Building.{within, inRangeElse}
 use Rattle.ranked.specs.declared.policy.Lru.{Lru}

@@ -13,9 +13,9 @@ use Rattle.std.specs.declared.option.Option.{Option}
 use Rattle.std.specs.declared.option.Option.the-variants.{None, Some}
 use Rattle.device.specs.Device.{after, Always}
 use Rattle.device.specs.Laws.{device-always}
-use Rattle.tier.specs.declared.mark.Mark.{Mark}
-use Rattle.tier.specs.declared.line.Line.{Line}
-use Rattle.tier.specs.Marks.{markNumber}
+use Rattle.parts.specs.declared.mark.Mark.{Mark}
+use Rattle.parts.specs.declared.line.Line.{Line}
+use Rattle.parts.specs.Marks.{markNumber}
 use Rattle.tier.specs.Meaning.{TierCall, put, take, change, touch, clear, Holding, line, ifHeld, lookOf, bare, TierLaws, Lawful}
 use Rattle.tier.proofs.Options.{never, none-some, some-same, is-some, some-of}
 use Rattle.tier.proofs.Holdings.{held-some, held-none, mark-low}

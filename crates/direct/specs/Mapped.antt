@@ -5,8 +5,8 @@ use Prim.Native.Nat.{ℕ, _%_}
 use Rattle.std.specs.Options.{isSome, mapped}
 use Rattle.std.specs.declared.option.Option.the-variants.{None, Some}
 use Rattle.device.specs.Device.{after}
-use Rattle.tier.specs.declared.mark.Mark.{Mark}
-use Rattle.tier.specs.declared.line.Line.{Line}
+use Rattle.parts.specs.declared.mark.Mark.{Mark}
+use Rattle.parts.specs.declared.line.Line.{Line}
 use Rattle.tier.specs.Meaning.{TierMeaning, touch, lookOf, outOf}
 
 pub record DirectMapped (lines : ℕ) (m : TierMeaning) : Type 0 where

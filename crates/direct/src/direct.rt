@@ -2,7 +2,7 @@
 ghost use Prim.Native.Nat.{_≤_};
 ghost use Rattle.std.specs.Of.Vec.{vec-len, vec-items};
 ghost use Rattle.direct.specs.Lines.{Placed};
-use tier::line::Line;
+use parts::line::Line;
 
 pub mod methods;
 

@@ -6,10 +6,10 @@ use Prim.Native.Nat.{ℕ}
 use Rattle.std.specs.declared.option.Option.{Option}
 use Rattle.std.specs.declared.option.Option.the-variants.{Some}
 use Rattle.device.specs.Device.{reach}
-use Rattle.tier.specs.declared.mark.Mark.the-variants.{Shared, Modified}
-use Rattle.tier.specs.declared.line.Line.{Line}
+use Rattle.parts.specs.declared.mark.Mark.the-variants.{Shared, Modified}
+use Rattle.parts.specs.declared.line.Line.{Line}
 use Rattle.tier.specs.Meaning.{TierMeaning, TierCall, put, touch, line, lookOf, outOf}
-use Rattle.pile.specs.Pile.{pile}
+use Rattle.tier.specs.Pile.{pile}
 use Rattle.direct.specs.Lines.{direct, empty}
 use Rattle.ranked.specs.Ranks.{ranked}
 use Rattle.assoc.specs.Sets.{setAssociative, empty as empty-sets}

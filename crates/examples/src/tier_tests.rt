@@ -3,8 +3,9 @@ use assoc::set_associative::SetAssociative;
 use assoc::set_associative::methods::SetAssociativeTier;
 use direct::direct::Direct;
 use direct::direct::methods::DirectTier;
-use pile::Pile;
-use pile::PileTier;
+use parts::mark::Mark;
+use parts::refusal::BuildError;
+use parts::refusal::Refusal;
 use ranked::policy::FifoReplacement;
 use ranked::queue::Queue;
 use ranked::ranked::methods::RankedTier;
@@ -12,9 +13,8 @@ use std::alloc::AllocError;
 use std::alloc::Global;
 use std::test::*;
 use tier::Tier;
-use tier::mark::Mark;
-use tier::refusal::BuildError;
-use tier::refusal::Refusal;
+use tier::pile::Pile;
+use tier::pile::PileTier;
 
 // A call of a tier and what it has to answer; block n is put as shared with stamp n.
 #[derive(Clone, Copy)]

@@ -6,8 +6,6 @@ use direct::direct::Direct;
 use direct::direct::methods::DirectTier;
 use numeral::BadNumber;
 use numeral::block_number;
-use pile::Pile;
-use pile::PileTier;
 use profiling::Access;
 use profiling::Profile;
 use std::alloc::AllocError;
@@ -17,6 +15,8 @@ use std::fmt;
 use std::io;
 use std::io::BufRead;
 use std::io::BufReader;
+use tier::pile::Pile;
+use tier::pile::PileTier;
 
 type Caches = Pile<Direct, SetAssociative>;
 

@@ -12,11 +12,11 @@ use Rattle.std.specs.declared.option.Option.{Option}
 use Rattle.std.specs.declared.option.Option.the-variants.{None, Some}
 use Rattle.std.specs.declared.result.Result.the-variants.{Ok, Err}
 use Rattle.device.specs.Device.{after}
-use Rattle.tier.specs.declared.mark.Mark.{Mark}
-use Rattle.tier.specs.declared.mark.Mark.the-variants.{Shared, Modified}
-use Rattle.tier.specs.declared.line.Line.{Line}
-use Rattle.tier.specs.declared.refusal.Refusal.the-variants.{AlreadyHeld}
-use Rattle.tier.specs.Marks.{markOf}
+use Rattle.parts.specs.declared.mark.Mark.{Mark}
+use Rattle.parts.specs.declared.mark.Mark.the-variants.{Shared, Modified}
+use Rattle.parts.specs.declared.line.Line.{Line}
+use Rattle.parts.specs.declared.refusal.Refusal.the-variants.{AlreadyHeld}
+use Rattle.parts.specs.Marks.{markOf}
 use Rattle.tier.specs.Meaning.{TierMeaning, put, take, touch, clear, Holding, ifHeld, lookOf, outOf, putAnswer, bare, Lawful}
 use Rattle.tier.proofs.Options.{never, some-same, is-some}
 use Rattle.tier.proofs.Holdings.{bare-held}

@@ -10,11 +10,11 @@ use Rattle.std.specs.declared.option.Option.the-variants.{None, Some}
 use Rattle.std.specs.declared.result.Result.{Result}
 use Rattle.std.specs.declared.result.Result.the-variants.{Ok, Err}
 use Rattle.device.specs.Device.{after}
-use Rattle.tier.specs.declared.mark.Mark.{Mark}
-use Rattle.tier.specs.declared.mark.Mark.the-variants.{Shared}
-use Rattle.tier.specs.declared.line.Line.{Line}
-use Rattle.tier.specs.declared.refusal.Refusal.{Refusal}
-use Rattle.tier.specs.Marks.{markOf}
+use Rattle.parts.specs.declared.mark.Mark.{Mark}
+use Rattle.parts.specs.declared.mark.Mark.the-variants.{Shared}
+use Rattle.parts.specs.declared.line.Line.{Line}
+use Rattle.parts.specs.declared.refusal.Refusal.{Refusal}
+use Rattle.parts.specs.Marks.{markOf}
 use Rattle.tier.specs.Meaning.{TierMeaning, put, take, touch, Holding, lookOf, putAnswer}
 use Rattle.profiling.specs.declared.Access.{Access}
 

@@ -4,13 +4,13 @@ ghost use mathlib.Core.Bool.{false};
 ghost use mathlib.Core.List.{List, [], _∷_};
 ghost use Prim.Native.Nat.{ℕ};
 ghost use Rattle.device.specs.Device.{after};
-ghost use Rattle.tier.specs.Marks.{markOf};
+ghost use Rattle.parts.specs.Marks.{markOf};
 ghost use Rattle.tier.specs.Meaning.{clear, put, depthOf, putAnswer};
 ghost use Rattle.profiling.specs.Access.{given, raised, raisedOut, accessed, answer, counted, countOf};
 ghost use Rattle.profiling.specs.Resident.{HitsTold};
 ghost use Rattle.profiling.specs.Tallies.{CountsAll};
+use parts::mark::Mark;
 use tier::Tier;
-use tier::mark::Mark;
 
 /// How an access was served.
 #[derive(Clone, Copy, PartialEq, Eq, Debug)]

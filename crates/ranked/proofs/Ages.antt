@@ -14,8 +14,8 @@ use Rattle.std.specs.Options.{isSome, mapped}
 use Rattle.std.specs.declared.option.Option.{Option}
 use Rattle.std.specs.declared.option.Option.the-variants.{None, Some}
 use Rattle.device.specs.Device.{reach}
-use Rattle.tier.specs.declared.mark.Mark.{Mark}
-use Rattle.tier.specs.declared.line.Line.{Line}
+use Rattle.parts.specs.declared.mark.Mark.{Mark}
+use Rattle.parts.specs.declared.line.Line.{Line}
 use Rattle.tier.specs.Meaning.{TierMeaning, TierCall, put, take, change, touch, clear, line, ifHeld, lookOf, outOf}
 use Rattle.tier.proofs.Options.{never, some-same, some-of}
 use Rattle.ranked.specs.Ranks.{Ranks, find, without, renewed, oldest, younger, ousted, spared, holding, ifFound, touched, rankedStep, ranked}

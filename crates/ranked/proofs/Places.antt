@@ -10,7 +10,7 @@ use borrow.Author.Tests.{eq-eqb, ne-eqb}
 use Rattle.std.specs.Holes.{removed}
 use Rattle.std.specs.declared.option.Option.{Option}
 use Rattle.std.specs.declared.option.Option.the-variants.{None, Some}
-use Rattle.tier.specs.declared.line.Line.{Line}
+use Rattle.parts.specs.declared.line.Line.{Line}
 use Rattle.ranked.specs.Ranks.{Ranks, find, without, renewed}
 use Rattle.ranked.specs.Ranked.{no-line, Stands, Missing}
 use Rattle.ranked.proofs.Ranks.{without-none, renewed-none}

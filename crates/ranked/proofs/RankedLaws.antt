@@ -11,9 +11,9 @@ use Rattle.std.specs.Options.{isSome, mapped}
 use Rattle.std.specs.declared.option.Option.{Option}
 use Rattle.std.specs.declared.option.Option.the-variants.{None, Some}
 use Rattle.device.specs.Laws.{device-always}
-use Rattle.tier.specs.declared.mark.Mark.{Mark}
-use Rattle.tier.specs.declared.line.Line.{Line}
-use Rattle.tier.specs.Marks.{markNumber}
+use Rattle.parts.specs.declared.mark.Mark.{Mark}
+use Rattle.parts.specs.declared.line.Line.{Line}
+use Rattle.parts.specs.Marks.{markNumber}
 use Rattle.tier.specs.Meaning.{TierCall, put, take, change, touch, clear, Holding, line, bare, TierLaws, Lawful}
 use Rattle.tier.proofs.Options.{never, none-some, some-same, is-some, some-of}
 use Rattle.tier.proofs.Holdings.{mark-low}

@@ -9,7 +9,7 @@ use borrow.Author.Tests.{eq-eqb}
 use Rattle.std.proofs.shelf.Ways.{tells}
 use Rattle.std.specs.Options.{isSome}
 use Rattle.std.specs.declared.option.Option.the-variants.{None, Some}
-use Rattle.tier.specs.declared.line.Line.{Line}
+use Rattle.parts.specs.declared.line.Line.{Line}
 use Rattle.tier.proofs.Options.{never, not-some}
 use Rattle.ranked.specs.Ranks.{Ranks, find, without, renewed, oldest, younger, ousted, spared, apart}
 

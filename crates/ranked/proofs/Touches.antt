@@ -7,7 +7,7 @@ use lib.ListN.{length}
 use Rattle.std.specs.Of.Vec.{vec-len, vec-items}
 use Rattle.std.specs.declared.option.Option.the-variants.{None, Some}
 use Rattle.device.specs.Device.{after}
-use Rattle.tier.specs.declared.line.Line.{Line}
+use Rattle.parts.specs.declared.line.Line.{Line}
 use Rattle.tier.specs.Meaning.{touch}
 use Rattle.ranked.specs.declared.ranked.Ranked.{Ranked}
 use Rattle.ranked.specs.Ranks.{find, without, touched, ranked}

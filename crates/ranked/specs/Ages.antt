@@ -7,8 +7,8 @@ use lib.Dec.{eqb}
 use Rattle.std.specs.Options.{isSome}
 use Rattle.std.specs.declared.option.Option.the-variants.{None, Some}
 use Rattle.device.specs.Device.{after, reach}
-use Rattle.tier.specs.declared.mark.Mark.{Mark}
-use Rattle.tier.specs.declared.line.Line.{Line}
+use Rattle.parts.specs.declared.mark.Mark.{Mark}
+use Rattle.parts.specs.declared.line.Line.{Line}
 use Rattle.tier.specs.Meaning.{TierMeaning, TierCall, put, take, change, touch, clear, ifHeld, lookOf, outOf}
 
 -- whether a call, made of m, is a use of block b: a put that is not refused is one, and so is a touch where touches count

@@ -7,8 +7,8 @@ use Rattle.std.specs.Holes.{removed}
 use Rattle.std.specs.Of.Vec.{vec-items, vec-cap}
 use Rattle.std.specs.declared.option.Option.{Option}
 use Rattle.std.specs.declared.option.Option.the-variants.{None, Some}
-use Rattle.tier.specs.declared.line.Line.{Line}
-use Rattle.tier.specs.declared.mark.Mark.the-variants.{Shared}
+use Rattle.parts.specs.declared.line.Line.{Line}
+use Rattle.parts.specs.declared.mark.Mark.the-variants.{Shared}
 use Rattle.tier.specs.Meaning.{TierMeaning, line}
 use Rattle.ranked.specs.declared.ranked.Ranked.{Ranked}
 use Rattle.ranked.specs.Ranks.{Ranks, find, without, renewed, ranked}

@@ -9,10 +9,10 @@ use Rattle.std.specs.declared.option.Option.{Option}
 use Rattle.std.specs.declared.option.Option.the-variants.{None, Some}
 use Rattle.std.specs.declared.result.Result.{Result}
 use Rattle.device.specs.Device.{device}
-use Rattle.tier.specs.declared.line.Line.{Line}
-use Rattle.tier.specs.declared.refusal.BuildError.{BuildError}
+use Rattle.parts.specs.declared.line.Line.{Line}
+use Rattle.parts.specs.declared.refusal.BuildError.{BuildError}
 use Rattle.tier.specs.Building.{within, inRangeElse}
-use Rattle.tier.specs.Marks.{markNumber}
+use Rattle.parts.specs.Marks.{markNumber}
 use Rattle.tier.specs.Meaning.{TierMeaning, TierView, TierCall, put, take, change, touch, clear, Holding, line}
 
 -- the lines that hold a block, the oldest first

@@ -8,8 +8,8 @@ ghost use Rattle.ranked.specs.Ages.{OldestLeaves};
 use crate::policy::Fifo;
 use crate::policy::FifoReplacement;
 use crate::ranked::Ranked;
+use parts::refusal::BuildError;
 use std::alloc::Global;
-use tier::refusal::BuildError;
 
 pub type Queue = Ranked<Fifo>;
 

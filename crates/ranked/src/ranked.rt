@@ -4,7 +4,7 @@ ghost use mathlib.Core.Bool.{true};
 ghost use Prim.Native.Nat.{_≤_};
 ghost use Rattle.std.specs.Of.Vec.{vec-cap, vec-items, vec-len};
 ghost use Rattle.ranked.specs.Ranks.{apart};
-use tier::line::Line;
+use parts::line::Line;
 
 pub mod methods;
 

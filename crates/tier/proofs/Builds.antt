@@ -7,8 +7,8 @@ use Rattle.std.specs.Vec.{made}
 use Rattle.std.proofs.shelf.Ways.{tells}
 use Rattle.std.specs.declared.result.Result.{Result}
 use Rattle.std.specs.declared.result.Result.the-variants.{Ok, Err}
-use Rattle.tier.specs.declared.refusal.BuildError.{BuildError}
-use Rattle.tier.specs.declared.refusal.BuildError.the-variants.{BadSize, NoMemory}
+use Rattle.parts.specs.declared.refusal.BuildError.{BuildError}
+use Rattle.parts.specs.declared.refusal.BuildError.the-variants.{BadSize, NoMemory}
 use Rattle.tier.specs.Meaning.{TierMeaning}
 use Rattle.tier.specs.Building.{within, inRangeElse, Builds}
 

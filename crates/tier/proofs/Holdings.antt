@@ -6,9 +6,9 @@ use native.Mathlib.Omega.{arith}
 use Rattle.std.specs.Options.{isSome}
 use Rattle.std.specs.declared.option.Option.{Option}
 use Rattle.std.specs.declared.option.Option.the-variants.{None, Some}
-use Rattle.tier.specs.declared.mark.Mark.{Mark}
-use Rattle.tier.specs.declared.mark.Mark.the-variants.{Shared, Modified}
-use Rattle.tier.specs.Marks.{markNumber}
+use Rattle.parts.specs.declared.mark.Mark.{Mark}
+use Rattle.parts.specs.declared.mark.Mark.the-variants.{Shared, Modified}
+use Rattle.parts.specs.Marks.{markNumber}
 use Rattle.tier.specs.Meaning.{Holding, ifHeld, bare}
 use Rattle.tier.proofs.Options.{never, some-of}
 

@@ -5,8 +5,8 @@ use Prim.Native.Nat.{ℕ}
 use lib.Dec.{ltb}
 use Rattle.std.specs.declared.result.Result.{Result}
 use Rattle.std.specs.declared.result.Result.the-variants.{Ok, Err}
-use Rattle.tier.specs.declared.refusal.BuildError.{BuildError}
-use Rattle.tier.specs.declared.refusal.BuildError.the-variants.{BadSize, NoMemory}
+use Rattle.parts.specs.declared.refusal.BuildError.{BuildError}
+use Rattle.parts.specs.declared.refusal.BuildError.the-variants.{BadSize, NoMemory}
 use Rattle.tier.specs.Meaning.{TierMeaning}
 
 -- n is from low to high

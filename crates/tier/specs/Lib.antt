@@ -1,4 +1,4 @@
-pub mod Marks
-pub mod Refusals
 pub mod Meaning
 pub mod Building
+pub mod Pile
+pub mod Stacked

@@ -8,11 +8,11 @@ use Rattle.std.specs.declared.option.Option.the-variants.{None, Some}
 use Rattle.std.specs.declared.result.Result.{Result}
 use Rattle.std.specs.declared.result.Result.the-variants.{Ok, Err}
 use Rattle.device.specs.Device.{Device, after, seen, Always}
-use Rattle.tier.specs.declared.mark.Mark.{Mark}
-use Rattle.tier.specs.declared.line.Line.{Line}
-use Rattle.tier.specs.declared.refusal.Refusal.{Refusal}
-use Rattle.tier.specs.declared.refusal.Refusal.the-variants.{AlreadyHeld, NotHeld}
-use Rattle.tier.specs.Marks.{markNumber}
+use Rattle.parts.specs.declared.mark.Mark.{Mark}
+use Rattle.parts.specs.declared.line.Line.{Line}
+use Rattle.parts.specs.declared.refusal.Refusal.{Refusal}
+use Rattle.parts.specs.declared.refusal.Refusal.the-variants.{AlreadyHeld, NotHeld}
+use Rattle.parts.specs.Marks.{markNumber}
 
 -- the calls that may alter something
 pub data TierCall : Type 0 where

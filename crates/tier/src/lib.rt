@@ -2,13 +2,11 @@
 ghost use mathlib.Core.Path.{_≡_};
 ghost use Rattle.device.specs.Device.{after};
 ghost use Rattle.tier.specs.Meaning.{TierMeaning, Lawful, put, take, change, touch, clear, depthOf, lookOf, putAnswer, heldAnswer};
-use crate::line::Line;
-use crate::mark::Mark;
-use crate::refusal::Refusal;
+use parts::line::Line;
+use parts::mark::Mark;
+use parts::refusal::Refusal;
 
-pub mod line;
-pub mod mark;
-pub mod refusal;
+pub mod pile;
 
 pub trait Tier {
     /// What the tier shows after any list of calls.

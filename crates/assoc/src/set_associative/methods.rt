@@ -12,6 +12,11 @@ ghost use Rattle.ranked.specs.Ages.{OldestLeaves};
 ghost use Rattle.assoc.specs.Sets.{lru, index, nth, called, empty, built, lruOf, lrusOf};
 ghost use Rattle.assoc.specs.SetAssociative.{setsOf, meaningOf};
 use crate::set_associative::SetAssociative;
+use parts::line::Line;
+use parts::mark::Mark;
+use parts::refusal::BuildError;
+use parts::refusal::BuildErrorFromAlloc;
+use parts::refusal::Refusal;
 use ranked::policy::Lru;
 use ranked::policy::LruReplacement;
 use ranked::ranked::Ranked;
@@ -19,11 +24,6 @@ use ranked::ranked::methods::RankedTier;
 use std::alloc::AllocError;
 use std::alloc::Global;
 use tier::Tier;
-use tier::line::Line;
-use tier::mark::Mark;
-use tier::refusal::BuildError;
-use tier::refusal::BuildErrorFromAlloc;
-use tier::refusal::Refusal;
 
 /// The most sets that a tier may have.
 pub const MOST_SETS: usize = 16;

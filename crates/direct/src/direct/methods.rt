@@ -9,14 +9,14 @@ ghost use Rattle.direct.specs.Lines.{slot, direct, empty, built};
 ghost use Rattle.direct.specs.Direct.{directOf};
 ghost use Rattle.direct.specs.Mapped.{DirectMapped};
 use crate::direct::Direct;
+use parts::line::Line;
+use parts::mark::Mark;
+use parts::refusal::BuildError;
+use parts::refusal::BuildErrorFromAlloc;
+use parts::refusal::Refusal;
 use std::alloc::AllocError;
 use std::alloc::Global;
 use tier::Tier;
-use tier::line::Line;
-use tier::mark::Mark;
-use tier::refusal::BuildError;
-use tier::refusal::BuildErrorFromAlloc;
-use tier::refusal::Refusal;
 
 /// The most lines that a direct tier may have.
 pub const MOST_LINES: usize = 64;

@@ -10,14 +10,14 @@ ghost use Rattle.ranked.specs.Ranks.{find, without, ousted, spared, ranked, bu
 ghost use Rattle.ranked.specs.Ranked.{rankedOf, Alike, Place};
 use crate::policy::Replacement;
 use crate::ranked::Ranked;
+use parts::line::Line;
+use parts::mark::Mark;
+use parts::refusal::BuildError;
+use parts::refusal::BuildErrorFromAlloc;
+use parts::refusal::Refusal;
 use std::alloc::AllocError;
 use std::alloc::Global;
 use tier::Tier;
-use tier::line::Line;
-use tier::mark::Mark;
-use tier::refusal::BuildError;
-use tier::refusal::BuildErrorFromAlloc;
-use tier::refusal::Refusal;
 
 /// The most ways that a ranked tier may have.
 pub const MOST_WAYS: usize = 16;

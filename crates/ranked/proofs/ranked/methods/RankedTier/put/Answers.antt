@@ -3,7 +3,7 @@ use mathlib.Core.Path.{sym, ap}
 use mathlib.Core.List.{[], _∷_, _++_}
 use Rattle.std.specs.Options.{mapped}
 use Rattle.std.specs.declared.result.Result.the-variants.{Ok, Err}
-use Rattle.tier.specs.declared.refusal.Refusal.the-variants.{AlreadyHeld}
+use Rattle.parts.specs.declared.refusal.Refusal.the-variants.{AlreadyHeld}
 use Rattle.tier.specs.Meaning.{line, ifHeld}
 use Rattle.ranked.specs.Ranks.{ousted, spared, holding, ifFound, ranked}
 use Rattle.ranked.proofs.ranked.methods.RankedTier.put.Needs as need

@@ -3,7 +3,7 @@ use mathlib.Core.Path.{_≡_, sym, ap, _∙_}
 use mathlib.Core.Bool.{true}
 use Rattle.std.specs.Options.{mapped}
 use Rattle.std.specs.declared.result.Result.the-variants.{Ok, Err}
-use Rattle.tier.specs.declared.refusal.Refusal.the-variants.{NotHeld}
+use Rattle.parts.specs.declared.refusal.Refusal.the-variants.{NotHeld}
 use Rattle.tier.specs.Meaning.{ifHeld}
 use Rattle.ranked.specs.Ranks.{holding}
 use Rattle.ranked.proofs.Touches.{taken-fresh, taken-room, untouched}

@@ -1,3 +1,0 @@
-pub mod Moves
-pub mod PileLaws
-pub mod Stacks
