@@ -24,6 +24,12 @@ givesOut m cs n = outOf (reach m cs) n Shared 9
 abbrev pub puts : ℕ → TierCall
 puts n = put n Shared n
 
+abbrev pub one : TierMeaning
+one = direct (empty 1)
+
+abbrev pub five : TierMeaning
+five = pile one (pile one (pile one (pile one one)))
+
 pub record Examples : Type 0 where
   -- two lines, put 0 and 2: they share a line, so 0 is given out
   pub direct-two : givesOut (direct (empty 2)) (puts 0 ∷ []) 2 ≡ Some (line 0 Shared 0)
@@ -34,5 +40,7 @@ pub record Examples : Type 0 where
   -- a direct tier of one line on a queue of one, put 0, 1 and 2: 0 is given out, and 1 is at level 2
   pub pile-out : givesOut (pile (direct (empty 1)) (ranked false 1 [])) (puts 0 ∷ puts 1 ∷ []) 2 ≡ Some (line 0 Shared 0)
   pub pile-level : lookOf (reach (pile (direct (empty 1)) (ranked false 1 [])) (puts 0 ∷ puts 1 ∷ puts 2 ∷ [])) 1 ≡ Some (0, 1, 2)
+  -- five direct tiers of one line in a pile, put 0 to 4: the fifth level counts as the fourth
+  pub pile-deepest : lookOf (reach five (puts 0 ∷ puts 1 ∷ puts 2 ∷ puts 3 ∷ puts 4 ∷ [])) 0 ≡ Some (0, 0, 4)
   -- a window from 4 of length 10 over a memory of 6 blocks has 2
   pub window-short : (m : MemoryMeaning) → sizeOf m ≡ 6 → sizeOf (window 4 10 m) ≡ 2

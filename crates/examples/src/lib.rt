@@ -4,15 +4,15 @@ ghost use Rattle.examples.specs.Examples.{Examples};
 
 /// The examples hold of the definitions; the answer is how many there are.
 pub fn examples_hold() -> u8
-    ensures { λ r. ⌜ (r ≡ 6) × Examples ⌝ }
+    ensures { λ r. ⌜ (r ≡ 7) × Examples ⌝ }
 {
     count()
 }
 
 fn count() -> u8
-    ensures { λ r. ⌜ r ≡ 6 ⌝ }
+    ensures { λ r. ⌜ r ≡ 7 ⌝ }
 {
-    6
+    7
 }
 
 #[cfg(test)]

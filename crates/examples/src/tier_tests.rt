@@ -159,27 +159,6 @@ fn pile_sinks_and_gives_out(rt: LibcRuntime) -> Result<(), Fail> {
     check_eq(pile.look(2), None)
 }
 
-#[test]
-fn piles_stop_at_level_4(rt: LibcRuntime) -> Result<(), Fail> {
-    let lower = Pile::new(queue(rt.alloc(), 1)?, queue(rt.alloc(), 2)?);
-    let middle = Pile::new(direct(rt.alloc(), 1)?, direct(rt.alloc(), 1)?);
-    let mut pile = Pile::new(direct(rt.alloc(), 1)?, Pile::new(middle, lower));
-    let steps = [
-        Step::Put(0, None),
-        Step::Put(1, None),
-        Step::Put(2, None),
-        Step::Put(3, None),
-        Step::Put(4, None),
-        Step::Put(5, None),
-        Step::Look(5, Some((0, 5, 1))),
-        Step::Look(3, Some((0, 3, 3))),
-        Step::Look(0, Some((0, 0, 4))),
-        Step::Put(6, Some(0)),
-    ];
-    check_eq(first_wrong(&mut pile, &steps), 0)?;
-    check_eq(pile.depth(), 4)
-}
-
 // The number of a constructor's refusal: 0 for none, and 255 where the tier that comes with it has not just one line.
 fn refusal<T: Tier + Drop>(answer: Result<T, BuildError<T>>) -> u8 {
     match answer {

@@ -12,6 +12,7 @@ returns c = (
     queue-touched = refl;
     pile-out = refl;
     pile-level = refl;
+    pile-deepest = refl;
     window-short = λ m e. ap (λ n. min 10 (n - 4)) e;
   },
 )
