@@ -1,2 +1,4 @@
 //! The set-associative tier.
+#![tactic(auto)]
+
 pub mod set_associative;

@@ -1,1 +1,2 @@
 //! What a simulated device is: definitions for contracts, in specs/, and no code.
+#![tactic(auto)]

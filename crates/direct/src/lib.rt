@@ -1,2 +1,4 @@
 //! The direct-mapped tier.
+#![tactic(auto)]
+
 pub mod direct;

@@ -1,4 +1,6 @@
 //! Worked examples: proved of the definitions, and run as tests of the code.
+#![tactic(auto)]
+
 ghost use Rattle.std.specs.Prelude.{◌≡◌};
 ghost use Rattle.examples.specs.Examples.{Examples};
 

@@ -1,4 +1,6 @@
 //! Two memories in turn.
+#![tactic(auto)]
+
 ghost use Rattle.std.specs.Prelude.{◌≡◌};
 ghost use Rattle.interleaved.specs.Interleaved.{interleaved};
 ghost use Rattle.interleaved.specs.InterleavedLaws.{interleaved-lawful};

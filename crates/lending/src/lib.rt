@@ -1,4 +1,6 @@
 //! Whoever lends a table knows what it holds when it comes back.
+#![tactic(auto)]
+
 ghost use Rattle.std.specs.Prelude.{◌≡◌};
 ghost use Rattle.device.specs.Device.{after};
 ghost use Rattle.memory.specs.Meaning.{store, stale};

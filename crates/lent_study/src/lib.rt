@@ -1,4 +1,6 @@
 //! A study over a block table that the caller lends, and what the table holds when it comes back.
+#![tactic(auto)]
+
 ghost use Rattle.std.specs.Prelude.{◌≡◌, ℕ};
 ghost use Rattle.protocol.specs.Prices.{weighing};
 ghost use Rattle.lent_study.specs.Lent.{LentStudy};

@@ -1,4 +1,6 @@
 //! The machine that the programs simulate.
+#![tactic(auto)]
+
 ghost use Rattle.std.specs.Prelude.{◌≡◌, IfOk};
 ghost use Rattle.direct.specs.Direct.{direct_of};
 ghost use Rattle.direct.specs.Lines.{direct, empty};

@@ -1,4 +1,6 @@
 //! Main memory: numbered blocks, each valid with a stamp, or stale.
+#![tactic(auto)]
+
 ghost use Rattle.std.specs.Prelude.{◌≡◌};
 ghost use Rattle.device.specs.Device.{after};
 ghost use Rattle.memory.specs.Meaning.{MemoryMeaning, store, stale, size_of, asked, granted, Lawful};

@@ -1,4 +1,6 @@
 //! How a step moves a block in the caches of one core, whatever its tier.
+#![tactic(auto)]
+
 ghost use Rattle.std.specs.Prelude.{◌≡◌};
 ghost use Rattle.device.specs.Device.{after};
 ghost use Rattle.parts.specs.Marks.{mark_of};

@@ -1,4 +1,6 @@
 //! Numbers in input text: 0 to 65,535 in decimal digits, without a leading zero.
+#![tactic(auto)]
+
 ghost use Rattle.std.specs.Prelude.{◌≡◌};
 ghost use Rattle.numeral.specs.Number.{number_of, ReadsDecimals};
 

@@ -1,4 +1,6 @@
 //! Two rows side by side.
+#![tactic(auto)]
+
 ghost use Rattle.std.specs.Prelude.{◌≡◌, ◌+◌, min, ◌||◌, ◌++◌};
 ghost use Rattle.row.specs.Cores.{later};
 ghost use Rattle.pair.specs.Seats.{seat_of};

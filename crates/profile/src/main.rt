@@ -1,5 +1,7 @@
 //! profile: reads block numbers, one decimal number a line, runs them through the caches of one core, and prints where each
 //! access is served.
+#![tactic(auto)]
+
 use machine::{Caches, two_levels};
 use numeral::{BadNumber, block_number};
 use profiling::{Access, Profile};

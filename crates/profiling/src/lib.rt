@@ -1,4 +1,6 @@
 //! A profile of one core: where in its caches each access is served.
+#![tactic(auto)]
+
 ghost use Rattle.std.specs.Prelude.{◌≡◌, ℕ, false, List, [], ◌∷◌};
 ghost use Rattle.device.specs.Device.{after};
 ghost use Rattle.parts.specs.Marks.{mark_of};

@@ -1,4 +1,6 @@
 //! Rows of cores, each with caches of its own.
+#![tactic(auto)]
+
 ghost use Rattle.std.specs.Prelude.{◌≡◌, List};
 ghost use Rattle.tier.specs.Meaning.{look_of};
 ghost use Rattle.row.specs.Cores.{CoreMeaning, count_of, tier_at, state_at, turned, operated_out, done, invalidated, met, awaited, renewed, AllLawful};

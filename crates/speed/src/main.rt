@@ -1,6 +1,8 @@
 //! speed: plays a long schedule on a machine of two cores or of eight, and prints what it came to. The schedule is drawn from
 //! fixed pseudo-random numbers and reacts to the answers, so every run of the program prints the same. `bench/plain.rs` plays
 //! the same schedule by the same rules in plain Rust.
+#![tactic(auto)]
+
 use anyhow::anyhow;
 use assoc::set_associative::SetAssociative;
 use direct::direct::Direct;

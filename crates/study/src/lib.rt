@@ -1,4 +1,6 @@
 //! Studies of cores that share a memory.
+#![tactic(auto)]
+
 pub mod counts;
 pub mod stages;
 mod transfers;

@@ -1,4 +1,6 @@
 //! Worked examples of the study: proved of the definitions, and run as tests of the code.
+#![tactic(auto)]
+
 ghost use Rattle.std.specs.Prelude.{◌≡◌};
 ghost use Rattle.study_examples.specs.StudyExamples.{StudyExamples};
 ghost use Rattle.study_examples.specs.Premises.{Premises};

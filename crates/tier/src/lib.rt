@@ -1,4 +1,6 @@
 //! A tier is what one core holds of main memory, in one cache level or several.
+#![tactic(auto)]
+
 ghost use Rattle.std.specs.Prelude.{◌≡◌};
 ghost use Rattle.device.specs.Device.{after};
 ghost use Rattle.tier.specs.Meaning.{TierMeaning, Lawful, put, take, change, touch, clear, depth_of, look_of, put_answer, held_answer};

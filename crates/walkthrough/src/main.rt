@@ -1,4 +1,6 @@
 //! walkthrough: plays a schedule of nine calls on two cores, and prints what became of each and what the study comes to.
+#![tactic(auto)]
+
 use machine::two_cores;
 use memory::cell::{Cell, State};
 use memory::flat::Flat;

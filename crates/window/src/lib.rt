@@ -1,4 +1,6 @@
 //! A stretch of another memory.
+#![tactic(auto)]
+
 ghost use Rattle.std.specs.Prelude.{◌≡◌, ◌+◌, if◌then◌else◌, Some, None, nat_lt};
 ghost use Rattle.window.specs.Window.{window_size, window};
 ghost use Rattle.window.specs.WindowLaws.{window-lawful};
