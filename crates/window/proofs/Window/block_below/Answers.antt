@@ -2,8 +2,8 @@
 use Rattle.std.proofs.Common.{[], arith}
 use Rattle.window.proofs.Window.block_below.Goals as goal
 
-pub overflow-add-result : goal.overflow-add-result
-overflow-add-result g c = omega (arith, (g.M.Memory.lawful c.args.self.now.below []).bounded)
+pub overflow_add-result : goal.overflow_add-result
+overflow_add-result g c = omega (arith, (g.M.Memory.lawful c.args.self.now.below []).bounded)
 
-pub overflow-cast-result-then-block-size : goal.overflow-cast-result-then-block-size
-overflow-cast-result-then-block-size g c = omega (arith, (g.M.Memory.lawful c.args.self.now.below []).bounded)
+pub overflow_cast-result-then-block-size : goal.overflow_cast-result-then-block-size
+overflow_cast-result-then-block-size g c = omega (arith, (g.M.Memory.lawful c.args.self.now.below []).bounded)

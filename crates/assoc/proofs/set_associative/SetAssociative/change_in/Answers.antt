@@ -6,11 +6,11 @@ use Rattle.assoc.specs.SetAssociative.{sets_of}
 use Rattle.assoc.specs.Calls.{index_lt, answered, went, stays-placed}
 use Rattle.assoc.proofs.set_associative.SetAssociative.change_in.Goals as goal
 
-pub index-mut-requires : goal.index-mut-requires
-index-mut-requires c = index_lt c.args.self.now c.args.block c.args.set c.requires
+pub index_mut-requires : goal.index_mut-requires
+index_mut-requires c = index_lt c.args.self.now c.args.block c.args.set c.requires
 
-pub invariant-of-self : goal.invariant-of-self
-invariant-of-self c =
+pub invariant_of-self : goal.invariant_of-self
+invariant_of-self c =
     let t = c.args.self.now in
     let lt = index_lt t c.args.block c.args.set c.requires in
     let did = went t c.args.set c.index-mut.result.now lt c.index-mut.ensures.value (change c.args.block c.args.mark c.args.stamp) _ c.change.ensures.next in

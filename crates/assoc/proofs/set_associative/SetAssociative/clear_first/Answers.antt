@@ -20,8 +20,8 @@ loop-i-preserved c =
     let ok = t.sets.ok.0 in
     (inv.0, cleared_more c.loop-i.i _ _ _ (omega arith) inv.1 (went here c.loop-i.i c.index-mut.result.now (omega arith) c.index-mut.ensures.value clear _ c.clear.ensures))
 
-pub invariant-of-self : goal.invariant-of-self
-invariant-of-self c =
+pub invariant_of-self : goal.invariant_of-self
+invariant_of-self c =
     let here = c.loop-i.self in
     let i = c.loop-i.i in
     let inv = c.loop-i.invariant in

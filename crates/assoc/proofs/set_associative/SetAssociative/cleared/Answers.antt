@@ -6,8 +6,8 @@ use Rattle.assoc.specs.Maps.{length_means}
 use Rattle.assoc.proofs.SetAges.{empty-placed}
 use Rattle.assoc.proofs.set_associative.SetAssociative.cleared.Goals as goal
 
-pub invariant-of-result : goal.invariant-of-result
-invariant-of-result c =
+pub invariant_of-result : goal.invariant_of-result
+invariant_of-result c =
     let v = c.in-ok-sets.sets in
     let e = c.in-ok-sets.ensures in
     let means = length_means lru_of v.items in

@@ -5,8 +5,8 @@ use Rattle.memory.specs.Meaning.{store}
 use Rattle.study.specs.Opening.{zeroed}
 use Rattle.study.proofs.stages.ends.zero.Goals as goal
 
-pub overflow-cast-block : goal.overflow-cast-block
-overflow-cast-block g c = omega (arith, (g.M.Memory.lawful c.args.memory.now []).bounded)
+pub overflow_cast-block : goal.overflow_cast-block
+overflow_cast-block g c = omega (arith, (g.M.Memory.lawful c.args.memory.now []).bounded)
 
 pub loop-block-init : goal.loop-block-init
 unfolding zeroed

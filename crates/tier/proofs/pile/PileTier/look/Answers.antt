@@ -2,8 +2,8 @@
 use Rattle.std.proofs.Common.{[], sym, ◌∙◌, rules}
 use Rattle.tier.proofs.pile.PileTier.look.Goals as goal
 
-pub overflow-add-depth : goal.overflow-add-depth
-overflow-add-depth g c =
+pub overflow_add-depth : goal.overflow_add-depth
+overflow_add-depth g c =
     let u = (g.met.U.Tier.lawful c.args.self.now.upper []).depth_high in
     let shown = c.in-Some-look in
     let l = (g.met.L.Tier.lawful c.args.self.now.lower []).levels c.args.block (shown.mark, shown.stamp, shown.level) (sym c.look-2.ensures ∙ shown.is) in
