@@ -9,6 +9,6 @@ pub returns : goal.returns
 returns c =
     let back = memory-back _ _ c.over-flat.result.table.now _ c.args.block c.args.stamp c.retire.ensures in
     record {
-      value = ap (λ x. x.now) c.into-table.ensures ∙ back.1 ∙ ap (λ (x : MutBor (List Cell)). retired x.now c.args.block c.args.stamp) c.over-flat.ensures;
-      named = ap (λ x. x.ghost_name) c.into-table.ensures ∙ back.0 ∙ ap (λ x. x.ghost_name) c.over-flat.ensures;
+      value = ap (λ x. x.now) c.into_table.ensures ∙ back.1 ∙ ap (λ (x : MutBor (List Cell)). retired x.now c.args.block c.args.stamp) c.over-flat.ensures;
+      named = ap (λ x. x.ghost_name) c.into_table.ensures ∙ back.0 ∙ ap (λ x. x.ghost_name) c.over-flat.ensures;
     }

@@ -3,8 +3,8 @@ use Rattle.std.proofs.Common.{rules}
 use Rattle.direct.specs.DirectLaws.{empty-placed}
 use Rattle.direct.proofs.direct.Direct.cleared.Goals as goal
 
-pub invariant_of-result : goal.invariant_of-result
-invariant_of-result c =
-    let v = c.in-ok-lines.lines in
-    let e = c.in-ok-lines.ensures in
-    (search rules, (search rules, (empty-placed v.items c.args.lines (search rules), tt)))
+pub invariant_of-result-clause-placed : goal.invariant_of-result-clause-placed
+invariant_of-result-clause-placed c =
+    let v = c.in_ok-lines.lines in
+    let e = c.in_ok-lines.ensures in
+    empty-placed v.items c.args.lines (search rules)

@@ -4,8 +4,7 @@ use Rattle.ranked.specs.Ranks.{apart}
 use Rattle.ranked.specs.RanksLemmas.{apart-without}
 use Rattle.ranked.proofs.ranked.Ranked.remove.Goals as goal
 
-pub invariant_of-self : goal.invariant_of-self
-invariant_of-self g c =
+pub invariant_of-self-clause-alone : goal.invariant_of-self-clause-alone
+invariant_of-self-clause-alone g c =
     let s = c.args.self.now in
-    let a = ap apart (c.remove.ensures.items ∙ c.in-Some.ensures.cut) ∙ apart-without s.held.items c.args.block s.alone in
-    (s.some, (search rules, (search rules, (a, tt))))
+    ap apart (c.remove.ensures.items ∙ c.in-Some.ensures.cut) ∙ apart-without s.held.items c.args.block s.alone

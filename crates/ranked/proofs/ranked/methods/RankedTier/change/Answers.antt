@@ -5,9 +5,8 @@ use Rattle.ranked.specs.Ranks.{apart}
 use Rattle.ranked.specs.RanksLemmas.{apart-renewed}
 use Rattle.ranked.proofs.ranked.methods.RankedTier.change.Goals as goal
 
-pub invariant_of-self : goal.invariant_of-self
-invariant_of-self g c =
+pub invariant_of-self-clause-alone : goal.invariant_of-self-clause-alone
+invariant_of-self-clause-alone g c =
     let s = c.args.self.now in
     let x = line c.args.block c.args.mark c.args.stamp in
-    let a = ap apart (c.in-Some.ensures.new x refl) ∙ apart-renewed s.held.items x s.alone in
-    (s.some, (search rules, (search rules, (a, tt))))
+    ap apart (c.in-Some.ensures.new x refl) ∙ apart-renewed s.held.items x s.alone
