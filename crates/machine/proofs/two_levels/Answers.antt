@@ -7,4 +7,4 @@ use Rattle.machine.proofs.two_levels.Goals as goal
 pub returns : goal.returns
 returns c =
     c.new.ensures.cleared
-    ∙ (λ i. pile (after (c.in-ok-upper.ensures i) clear) (after (c.in-ok-lower.ensures i) clear))
+    ∙ (λ i. pile (after (c.in_ok-upper.ensures i) clear) (after (c.in_ok-lower.ensures i) clear))

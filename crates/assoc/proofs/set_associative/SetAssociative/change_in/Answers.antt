@@ -9,19 +9,19 @@ use Rattle.assoc.proofs.set_associative.SetAssociative.change_in.Goals as goal
 pub index_mut-requires : goal.index_mut-requires
 index_mut-requires c = index_lt c.args.self.now c.args.block c.args.set c.requires
 
-pub invariant_of-self : goal.invariant_of-self
-invariant_of-self c =
+pub invariant_of-self-clause-placed : goal.invariant_of-self-clause-placed
+invariant_of-self-clause-placed c =
     let t = c.args.self.now in
     let lt = index_lt t c.args.block c.args.set c.requires in
-    let did = went t c.args.set c.index-mut.result.now lt c.index-mut.ensures.value (change c.args.block c.args.mark c.args.stamp) _ c.change.ensures.next in
-    (t.some, (stays-placed t _ (change c.args.block c.args.mark c.args.stamp) (did ∙ ap (λ i. called (sets_of t) i (change c.args.block c.args.mark c.args.stamp)) c.requires), tt))
+    let did = went t c.args.set c.index_mut.result.now lt c.index_mut.ensures.value (change c.args.block c.args.mark c.args.stamp) _ c.change.ensures.next in
+    stays-placed t _ (change c.args.block c.args.mark c.args.stamp) (did ∙ ap (λ i. called (sets_of t) i (change c.args.block c.args.mark c.args.stamp)) c.requires)
 
 pub returns : goal.returns
 returns c =
     let t = c.args.self.now in
-    let x = c.index-mut.result.now in
+    let x = c.index_mut.result.now in
     let lt = index_lt t c.args.block c.args.set c.requires in
-    let is = c.index-mut.ensures.value in
+    let is = c.index_mut.ensures.value in
     record {
       answer = answered t c.args.set x lt is _ (λ m. held_answer m c.args.block) c.change.ensures.answer;
       next = went t c.args.set x lt is (change c.args.block c.args.mark c.args.stamp) _ c.change.ensures.next;

@@ -18,7 +18,7 @@ loop-i-preserved c =
     let inv = c.loop-i.invariant in
     let len = length_means lru_of t.sets.items in
     let ok = t.sets.ok.0 in
-    (inv.0, cleared_more c.loop-i.i _ _ _ (omega arith) inv.1 (went here c.loop-i.i c.index-mut.result.now (omega arith) c.index-mut.ensures.value clear _ c.clear.ensures))
+    (inv.0, cleared_more c.loop-i.i _ _ _ (omega arith) inv.1 (went here c.loop-i.i c.index_mut.result.now (omega arith) c.index_mut.ensures.value clear _ c.clear.ensures))
 
 pub invariant_of-self : goal.invariant_of-self
 invariant_of-self c =
@@ -28,8 +28,8 @@ invariant_of-self c =
     let len = length_means lru_of here.sets.items in
     let ok = here.sets.ok.0 in
     let lt : i < here.sets.len = omega arith in
-    let did = went here i c.index-mut.result.now lt c.index-mut.ensures.value clear _ c.clear.ensures in
-    (here.some, (placed-clear (sets_of here) _ i (omega arith) ((good_of here).lawful i (omega arith)) here.placed did, tt))
+    let did = went here i c.index_mut.result.now lt c.index_mut.ensures.value clear _ c.clear.ensures in
+    record { some = here.some; placed = placed-clear (sets_of here) _ i (omega arith) ((good_of here).lawful i (omega arith)) here.placed did }
 
 pub returns : goal.returns
 returns c all =

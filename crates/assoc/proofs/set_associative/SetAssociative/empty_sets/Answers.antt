@@ -6,8 +6,8 @@ use Rattle.assoc.proofs.set_associative.SetAssociative.empty_sets.Goals as goal
 
 pub loop-made-preserved : goal.loop-made-preserved
 loop-made-preserved c =
-    push_means lru_of c.loop-made.sets.items _ c.loop-made.made c.in-ok-set.set (lru c.args.ways)
-    c.in-ok-push.ensures.items c.loop-made.invariant c.in-ok-set.ensures
+    push_means lru_of c.loop-made.sets.items _ c.loop-made.made c.in_ok-set.set (lru c.args.ways)
+    c.in_ok-push.ensures.items c.loop-made.invariant c.in_ok-set.ensures
 
 pub returns : goal.returns
 returns c =

@@ -9,19 +9,19 @@ use Rattle.assoc.proofs.set_associative.SetAssociative.take_in.Goals as goal
 pub index_mut-requires : goal.index_mut-requires
 index_mut-requires c = index_lt c.args.self.now c.args.block c.args.set c.requires
 
-pub invariant_of-self : goal.invariant_of-self
-invariant_of-self c =
+pub invariant_of-self-clause-placed : goal.invariant_of-self-clause-placed
+invariant_of-self-clause-placed c =
     let t = c.args.self.now in
     let lt = index_lt t c.args.block c.args.set c.requires in
-    let did = went t c.args.set c.index-mut.result.now lt c.index-mut.ensures.value (take c.args.block) _ c.take.ensures.next in
-    (t.some, (stays-placed t _ (take c.args.block) (did ∙ ap (λ i. called (sets_of t) i (take c.args.block)) c.requires), tt))
+    let did = went t c.args.set c.index_mut.result.now lt c.index_mut.ensures.value (take c.args.block) _ c.take.ensures.next in
+    stays-placed t _ (take c.args.block) (did ∙ ap (λ i. called (sets_of t) i (take c.args.block)) c.requires)
 
 pub returns : goal.returns
 returns c =
     let t = c.args.self.now in
-    let x = c.index-mut.result.now in
+    let x = c.index_mut.result.now in
     let lt = index_lt t c.args.block c.args.set c.requires in
-    let is = c.index-mut.ensures.value in
+    let is = c.index_mut.ensures.value in
     record {
       answer = answered t c.args.set x lt is _ (λ m. look_of m c.args.block) c.take.ensures.answer;
       next = went t c.args.set x lt is (take c.args.block) _ c.take.ensures.next;
