@@ -10,7 +10,7 @@ use Rattle.direct.specs.Lines.{direct, empty}
 use Rattle.assoc.specs.declared.set_associative.SetAssociative.{SetAssociative}
 use Rattle.assoc.specs.SetAssociative.{meaning_of}
 use Rattle.assoc.specs.Sets.{set_associative, empty as empty-sets}
-use Rattle.row.specs.declared.core.Core.{Core}
+use Rattle.row.specs.declared.one_core.Core.{Core}
 use Rattle.row.specs.Cores.{CoreMeaning, core}
 use Rattle.pair.specs.declared.Pair.{Pair}
 

@@ -11,7 +11,7 @@ ghost use Rattle.machine.specs.Machine.{two_levels, two_cores, caches_of, cores_
 use assoc::set_associative::SetAssociative;
 use direct::direct::Direct;
 use pair::Pair;
-use row::core::Core;
+use row::one_core::Core;
 use std::alloc::{AllocError, Global};
 use tier::pile::Pile;
 

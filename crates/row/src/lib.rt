@@ -9,7 +9,7 @@ use crate::operation::Operation;
 use parts::line::Line;
 use protocol::access::CoreState;
 
-pub mod core;
+pub mod one_core;
 pub mod operation;
 
 /// The most cores that are addressed.

@@ -15,7 +15,7 @@ use protocol::answer::{Answer, value_of, word_of};
 use protocol::call::Call;
 use protocol::refusal::Refusal;
 use row::Row;
-use row::core::Core;
+use row::one_core::Core;
 use std::alloc::{AllocError, Global};
 use std::{env, io};
 use study::stages::{Draft, Run, Settled};

@@ -10,7 +10,7 @@ use protocol::answer::Answer;
 use protocol::call::Call;
 use protocol::refusal::Refusal;
 use row::Row;
-use row::core::Core;
+use row::one_core::Core;
 use std::alloc::{AllocError, Global};
 use std::process::Abort;
 use std::test::Fail;

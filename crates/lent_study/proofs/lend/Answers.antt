@@ -24,9 +24,9 @@ returns-in-Ok g c =
     let ends = c.in-Ok.ensures.ending ∙ ap (λ o. simulated o (calls_of turns)) opens in
     let back = returned cs w (calls_of turns) c.args.table.ghost_name _ c.args.table.now _ _ refl ends in
     record {
-      named = ap (λ x. x.ghost_name) c.into-table-in-Ok.ensures ∙ back.named;
+      named = ap (λ x. x.ghost_name) c.into_table-in-Ok.ensures ∙ back.named;
       study = record {
-        table = ap (λ o. lent_of (memory_after o t (calls_of turns))) starts ∙ back.table ∙ ap (λ x. lent c.args.table.ghost_name x.now ∷ []) (sym c.into-table-in-Ok.ensures);
+        table = ap (λ o. lent_of (memory_after o t (calls_of turns))) starts ∙ back.table ∙ ap (λ x. lent c.args.table.ghost_name x.now ∷ []) (sym c.into_table-in-Ok.ensures);
         schedule = c.in-Ok.ensures.turns ∙ ap (λ o. recorded o turns) opens ∙ ap (λ o. recorded o turns) (sym starts);
         quote = ap quote_of ends ∙ ap (λ o. quote_of (simulated o (calls_of turns))) (sym starts);
       };

@@ -9,4 +9,4 @@ returns g c =
     let ys = g.S.Row.cores c.args.self.now.second in
     c.either.ensures
     ∙ (λ i. c.awaited-a.ensures i || c.awaited-b.ensures i)
-    ∙ awaited_both c.args.sender c.args.block xs ys c.args.first c.number-after-second.result (omega arith)
+    ∙ awaited_both c.args.sender c.args.block xs ys c.args.first c.number_after-second.result (omega arith)

@@ -10,7 +10,7 @@ returns g c =
     let ys = g.S.Row.cores c.args.self.now.second in
     record {
       answer =
-          c.later.ensures ∙ (λ i. later (c.invalidate-a.ensures.answer i) (c.invalidate-b.ensures.answer i)) ∙ met_both c.args.sender c.args.block xs ys c.args.first c.number-after-second.result (omega arith);
+          c.later.ensures ∙ (λ i. later (c.invalidate-a.ensures.answer i) (c.invalidate-b.ensures.answer i)) ∙ met_both c.args.sender c.args.block xs ys c.args.first c.number_after-second.result (omega arith);
       next =
-          (λ i. c.invalidate-a.ensures.next i ++ c.invalidate-b.ensures.next i) ∙ invalidated_both c.args.sender c.args.block xs ys c.args.first c.number-after-second.result (omega arith);
+          (λ i. c.invalidate-a.ensures.next i ++ c.invalidate-b.ensures.next i) ∙ invalidated_both c.args.sender c.args.block xs ys c.args.first c.number_after-second.result (omega arith);
     }

@@ -22,9 +22,9 @@ warranted cores meaning cs m w ks tiers memory (Err e) p = tt
 
 pub returns : goal.returns
 returns g c = record {
-  ending = c.open-and-play.ensures.ending;
-  turns = c.open-and-play.ensures.turns;
-  back = c.open-and-play.ensures.back;
+  ending = c.open_and_play.ensures.ending;
+  turns = c.open_and_play.ensures.turns;
+  back = c.open_and_play.ensures.back;
   warrant = warranted g.R.Row.cores g.M.Memory.meaning _ _ c.args.self.weights _ (g.met.R.Row.lawful c.args.self.row) (g.M.Memory.lawful c.args.self.memory)
-      c.open-and-play.result c.open-and-play.ensures.ending;
+      c.open_and_play.result c.open_and_play.ensures.ending;
 }

@@ -7,8 +7,8 @@ loop-i-init g c = (refl, refl)
 
 pub loop-i-preserved : goal.loop-i-preserved
 loop-i-preserved g c = (
-  played-next _ _ c.loop-i.schedule c.loop-i.i _ _ (omega arith) c.take-turn.ensures.run c.take-turn.ensures.turn ∙ c.loop-i.invariant.0,
-  history-next _ _ c.loop-i.schedule c.loop-i.i _ _ (omega arith) c.take-turn.ensures.run c.take-turn.ensures.turn ∙ c.loop-i.invariant.1,
+  played-next _ _ c.loop-i.schedule c.loop-i.i _ _ (omega arith) c.take_turn.ensures.run c.take_turn.ensures.turn ∙ c.loop-i.invariant.0,
+  history-next _ _ c.loop-i.schedule c.loop-i.i _ _ (omega arith) c.take_turn.ensures.run c.take_turn.ensures.turn ∙ c.loop-i.invariant.1,
 )
 
 pub returns : goal.returns

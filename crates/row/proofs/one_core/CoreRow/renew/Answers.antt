@@ -1,7 +1,7 @@
 -- One core, cleared and ready.
 use Rattle.std.proofs.Common.{◌≡◌, [], ◌∷◌}
 use Rattle.row.specs.Cores.{core, renewed}
-use Rattle.row.proofs.core.CoreRow.renew.Goals as goal
+use Rattle.row.proofs.one_core.CoreRow.renew.Goals as goal
 
 pub returns : goal.returns
 unfolding renewed
