@@ -59,7 +59,7 @@ impl<R: Row, M: Memory> Draft<R, M> {
     /// Opens the study: clears every tier, makes every core ready and stores stamp 0 in every block. A draft that is refused
     /// comes back whole, with nothing touched.
     pub fn open(self) -> Result<Run<R, M>, RefusedDraft<R, M>>
-        ensures run { opened_as cores meaning result ≡ opening (cores self.row) (meaning self.memory) (prices_of self.weights) }
+        ensures run { opened_as R.cores M.meaning result ≡ opening (R.cores self.row) (M.meaning self.memory) (prices_of self.weights) }
         ensures back { IfErr result (λ e. e.draft ≡ self) }
     {
         if self.row.count() > MOST_CORES {

@@ -17,8 +17,8 @@ use row::Row;
 impl<R: Row, M: Memory> Run<R, M> {
     // One step, with its answer and the total after it.
     fn take_turn(&mut self, call: Call) -> Turn
-        ensures run { run_of cores meaning self.new ≡ (step (run_of cores meaning self.old) call).run }
-        ensures turn { result ≡ turn_of (run_of cores meaning self.old) call }
+        ensures run { run_of R.cores M.meaning self.new ≡ (step (run_of R.cores M.meaning self.old) call).run }
+        ensures turn { result ≡ turn_of (run_of R.cores M.meaning self.old) call }
     {
         let answer = Some(self.step(call));
         let total = self.counts.total();
@@ -31,8 +31,8 @@ impl<R: Row, M: Memory> Run<R, M> {
 
     /// Makes the calls in order, and notes with each its answer and the total after it.
     pub fn play(&mut self, schedule: &mut [Turn])
-        ensures run { run_of cores meaning self.new ≡ played (run_of cores meaning self.old) (calls_of schedule.old) }
-        ensures turns { schedule.new ≡ history (run_of cores meaning self.old) (calls_of schedule.old) }
+        ensures run { run_of R.cores M.meaning self.new ≡ played (run_of R.cores M.meaning self.old) (calls_of schedule.old) }
+        ensures turns { schedule.new ≡ history (run_of R.cores M.meaning self.old) (calls_of schedule.old) }
     {
         for i in 0..schedule.len() {
             schedule[i] = self.take_turn(schedule[i].call);
@@ -45,17 +45,17 @@ impl<R: Row, M: Memory> Draft<R, M> {
     /// nothing is touched. Else, for this schedule and for every other: piles are tiers, cores and memory are coherent at every
     /// step, every read delivered is honest, and the counts are those of the answers.
     pub fn simulate(self, schedule: &mut [Turn]) -> Result<Settled<R, M>, RefusedDraft<R, M>>
-        ensures ending { ended_as cores meaning result ≡ simulated (opening (cores self.row) (meaning self.memory) (prices_of self.weights)) (calls_of schedule.old) }
-        ensures turns { schedule.new ≡ recorded (opening (cores self.row) (meaning self.memory) (prices_of self.weights)) schedule.old }
+        ensures ending { ended_as R.cores M.meaning result ≡ simulated (opening (R.cores self.row) (M.meaning self.memory) (prices_of self.weights)) (calls_of schedule.old) }
+        ensures turns { schedule.new ≡ recorded (opening (R.cores self.row) (M.meaning self.memory) (prices_of self.weights)) schedule.old }
         ensures back { IfErr result (λ e. e.draft ≡ self) }
-        ensures warrant { OnOk result (Warranted (cores self.row) (meaning self.memory) (prices_of self.weights)) }
+        ensures warrant { OnOk result (Warranted (R.cores self.row) (M.meaning self.memory) (prices_of self.weights)) }
     {
         self.open_and_play(schedule)
     }
 
     fn open_and_play(self, schedule: &mut [Turn]) -> Result<Settled<R, M>, RefusedDraft<R, M>>
-        ensures ending { ended_as cores meaning result ≡ simulated (opening (cores self.row) (meaning self.memory) (prices_of self.weights)) (calls_of schedule.old) }
-        ensures turns { schedule.new ≡ recorded (opening (cores self.row) (meaning self.memory) (prices_of self.weights)) schedule.old }
+        ensures ending { ended_as R.cores M.meaning result ≡ simulated (opening (R.cores self.row) (M.meaning self.memory) (prices_of self.weights)) (calls_of schedule.old) }
+        ensures turns { schedule.new ≡ recorded (opening (R.cores self.row) (M.meaning self.memory) (prices_of self.weights)) schedule.old }
         ensures back { IfErr result (λ e. e.draft ≡ self) }
     {
         let mut run = self.open()?;

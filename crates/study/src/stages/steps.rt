@@ -42,8 +42,8 @@ impl<R: Row, M: Memory> Run<R, M> {
     // A core cannot make an access yet.
     fn wait(&mut self, core: u16, access: Access) -> Answer
         requires { (tally_of self.old.counts).steps < 1000000 }
-        ensures run { run_of cores meaning self.new ≡ (waiting (run_of cores meaning self.old) core access).run }
-        ensures answer { Ok result ≡ (waiting (run_of cores meaning self.old) core access).answer }
+        ensures run { run_of R.cores M.meaning self.new ≡ (waiting (run_of R.cores M.meaning self.old) core access).run }
+        ensures answer { Ok result ≡ (waiting (run_of R.cores M.meaning self.old) core access).answer }
     {
         self.row.turn(core, CoreState::Waiting(access));
         charge(
@@ -59,8 +59,8 @@ impl<R: Row, M: Memory> Run<R, M> {
     // A core reads a block that it holds so.
     fn read_held(&mut self, core: u16, block: u16, held: (u8, u32, u8)) -> Answer
         requires { (tally_of self.old.counts).steps < 1000000 }
-        ensures run { run_of cores meaning self.new ≡ (reading (run_of cores meaning self.old) core block held).run }
-        ensures answer { Ok result ≡ (reading (run_of cores meaning self.old) core block held).answer }
+        ensures run { run_of R.cores M.meaning self.new ≡ (reading (run_of R.cores M.meaning self.old) core block held).run }
+        ensures answer { Ok result ≡ (reading (run_of R.cores M.meaning self.old) core block held).answer }
     {
         let (_, stamp, level) = held;
         let out = self.row.operate(core, Operation::BringUp(block, held));
@@ -79,8 +79,8 @@ impl<R: Row, M: Memory> Run<R, M> {
     // A core writes a block that it holds so.
     fn write_held(&mut self, core: u16, block: u16, held: (u8, u32, u8)) -> Answer
         requires { (tally_of self.old.counts).steps < 1000000 }
-        ensures run { run_of cores meaning self.new ≡ (writing (run_of cores meaning self.old) core block held).run }
-        ensures answer { Ok result ≡ (writing (run_of cores meaning self.old) core block held).answer }
+        ensures run { run_of R.cores M.meaning self.new ≡ (writing (run_of R.cores M.meaning self.old) core block held).run }
+        ensures answer { Ok result ≡ (writing (run_of R.cores M.meaning self.old) core block held).answer }
     {
         let (mark, _, level) = held;
         let out = self.row.operate(core, Operation::BringUp(block, held));
@@ -110,8 +110,8 @@ impl<R: Row, M: Memory> Run<R, M> {
     // An access as a ready core makes it.
     fn perform(&mut self, core: u16, wanted: Access) -> Answer
         requires { (tally_of self.old.counts).steps < 1000000 }
-        ensures run { run_of cores meaning self.new ≡ (access (run_of cores meaning self.old) core wanted).run }
-        ensures answer { Ok result ≡ (access (run_of cores meaning self.old) core wanted).answer }
+        ensures run { run_of R.cores M.meaning self.new ≡ (access (run_of R.cores M.meaning self.old) core wanted).run }
+        ensures answer { Ok result ≡ (access (run_of R.cores M.meaning self.old) core wanted).answer }
     {
         match (wanted, self.row.look(core, wanted.block())) {
             (Access::Read(block), Some(held)) => self.read_held(core, block, held),
@@ -123,8 +123,8 @@ impl<R: Row, M: Memory> Run<R, M> {
     // The block that a core waits for, valid in memory with this stamp, comes to it.
     fn bring(&mut self, core: u16, access: Access, stamp: u32) -> Answer
         requires { (tally_of self.old.counts).steps < 1000000 }
-        ensures run { run_of cores meaning self.new ≡ (fetching (run_of cores meaning self.old) core access stamp).run }
-        ensures answer { Ok result ≡ (fetching (run_of cores meaning self.old) core access stamp).answer }
+        ensures run { run_of R.cores M.meaning self.new ≡ (fetching (run_of R.cores M.meaning self.old) core access stamp).run }
+        ensures answer { Ok result ≡ (fetching (run_of R.cores M.meaning self.old) core access stamp).answer }
     {
         let block = access.block();
         let out = self
@@ -144,8 +144,8 @@ impl<R: Row, M: Memory> Run<R, M> {
 
     fn fetch(&mut self, core: u16, access: Access) -> Result<Answer, Refusal>
         requires { (tally_of self.old.counts).steps < 1000000 }
-        ensures run { run_of cores meaning self.new ≡ (fetch (run_of cores meaning self.old) core access).run }
-        ensures answer { result ≡ (fetch (run_of cores meaning self.old) core access).answer }
+        ensures run { run_of R.cores M.meaning self.new ≡ (fetch (run_of R.cores M.meaning self.old) core access).run }
+        ensures answer { result ≡ (fetch (run_of R.cores M.meaning self.old) core access).answer }
     {
         match valid(&self.memory, access.block()) {
             Some(stamp) => Ok(self.bring(core, access, stamp)),
@@ -156,7 +156,7 @@ impl<R: Row, M: Memory> Run<R, M> {
     // Main memory takes a copy that a core holds modified with this stamp, and the copy is shared.
     fn clean(&mut self, core: u16, block: u16, stamp: u32)
         requires { (tally_of self.old.counts).steps < 1000000 }
-        ensures { run_of cores meaning self.new ≡ cleaned (run_of cores meaning self.old) core block stamp }
+        ensures { run_of R.cores M.meaning self.new ≡ cleaned (run_of R.cores M.meaning self.old) core block stamp }
     {
         let _ = self
             .row
@@ -173,8 +173,8 @@ impl<R: Row, M: Memory> Run<R, M> {
 
     fn flush(&mut self, core: u16, block: u16) -> Result<Answer, Refusal>
         requires { (tally_of self.old.counts).steps < 1000000 }
-        ensures run { run_of cores meaning self.new ≡ (flush (run_of cores meaning self.old) core block).run }
-        ensures answer { result ≡ (flush (run_of cores meaning self.old) core block).answer }
+        ensures run { run_of R.cores M.meaning self.new ≡ (flush (run_of R.cores M.meaning self.old) core block).run }
+        ensures answer { result ≡ (flush (run_of R.cores M.meaning self.old) core block).answer }
     {
         match modified_stamp(self.row.look(core, block)) {
             Some(stamp) => {
@@ -191,8 +191,8 @@ impl<R: Row, M: Memory> Run<R, M> {
 
     fn commit(&mut self, core: u16, block: u16) -> Answer
         requires { (tally_of self.old.counts).steps < 1000000 }
-        ensures run { run_of cores meaning self.new ≡ (commit (run_of cores meaning self.old) core block).run }
-        ensures answer { Ok result ≡ (commit (run_of cores meaning self.old) core block).answer }
+        ensures run { run_of R.cores M.meaning self.new ≡ (commit (run_of R.cores M.meaning self.old) core block).run }
+        ensures answer { Ok result ≡ (commit (run_of R.cores M.meaning self.old) core block).answer }
     {
         match modified_stamp(self.row.look(core, block)) {
             Some(stamp) => {
@@ -215,8 +215,8 @@ impl<R: Row, M: Memory> Run<R, M> {
     // What a call does depends on the state of its core.
     fn act(&mut self, call: Call) -> Result<Answer, Refusal>
         requires { (tally_of self.old.counts).steps < 1000000 }
-        ensures run { run_of cores meaning self.new ≡ (act (run_of cores meaning self.old) call (state_at (cores self.old.row) (core_of call))).run }
-        ensures answer { result ≡ (act (run_of cores meaning self.old) call (state_at (cores self.old.row) (core_of call))).answer }
+        ensures run { run_of R.cores M.meaning self.new ≡ (act (run_of R.cores M.meaning self.old) call (state_at (R.cores self.old.row) (core_of call))).run }
+        ensures answer { result ≡ (act (run_of R.cores M.meaning self.old) call (state_at (R.cores self.old.row) (core_of call))).answer }
     {
         match (call, self.row.state(call.core())) {
             (Call::Read(core, block), CoreState::Ready) => Ok(self.perform(
@@ -237,8 +237,8 @@ impl<R: Row, M: Memory> Run<R, M> {
 
     // The questions that are put to every call, and then the call.
     fn check(&mut self, call: Call) -> Result<Answer, Refusal>
-        ensures run { run_of cores meaning self.new ≡ (checked (run_of cores meaning self.old) call).run }
-        ensures answer { result ≡ (checked (run_of cores meaning self.old) call).answer }
+        ensures run { run_of R.cores M.meaning self.new ≡ (checked (run_of R.cores M.meaning self.old) call).run }
+        ensures answer { result ≡ (checked (run_of R.cores M.meaning self.old) call).answer }
     {
         if self.counts.steps() >= MOST_STEPS {
             return Err(Refusal::TooManySteps);
@@ -254,8 +254,8 @@ impl<R: Row, M: Memory> Run<R, M> {
 
     /// One step. A refused one alters nothing.
     pub fn step(&mut self, call: Call) -> Result<Answer, Refusal>
-        ensures run { run_of cores meaning self.new ≡ (step (run_of cores meaning self.old) call).run }
-        ensures answer { result ≡ (step (run_of cores meaning self.old) call).answer }
+        ensures run { run_of R.cores M.meaning self.new ≡ (step (run_of R.cores M.meaning self.old) call).run }
+        ensures answer { result ≡ (step (run_of R.cores M.meaning self.old) call).answer }
     {
         self.check(call)
     }
