@@ -1,13 +1,12 @@
 -- In each set the block that was put or touched longest ago leaves.
-use Rattle.std.proofs.Common.{◌≡◌, ℕ, suc, ◌%◌, ◌<◌, ◌≤◌, Bool, true, false, cond, eqb, ltb, List, [], ◌∷◌, map, length, replicate, is_some, Some, None, Option, sym, refl, ap, ◌∙◌, subst, mod-lt, arith, ltb-false, ltb-true, ne_eqb}
+use Rattle.std.proofs.Common.{◌≡◌, ℕ, suc, ◌%◌, ◌<◌, ◌≤◌, Bool, true, false, cond, eqb, ltb, List, [], ◌∷◌, length, is_some, Some, None, Option, sym, refl, ap, ◌∙◌, subst, arith, ltb-false, ltb-true, ne_eqb}
 use native.Mathlib.Decide.{ℕ_discrete}
 use lib.ListN.{length-replicate, get_or-replicate}
-use Rattle.std.specs.Option.{option_map}
 use Rattle.device.specs.Device.{after, reach}
 use Rattle.parts.specs.declared.mark.Mark.{Mark}
 use Rattle.parts.specs.declared.line.Line.{Line}
 use Rattle.tier.specs.Meaning.{TierMeaning, TierCall, put, take, change, touch, clear, Holding, if_held, look_of, out_of, Lawful}
-use Rattle.ranked.specs.Ranks.{Ranks, find, holding, ranked_step, ranked}
+use Rattle.ranked.specs.Ranks.{Ranks, find, ranked_step, ranked}
 use Rattle.ranked.specs.Ages.{uses, last_use, OldestLeaves}
 use Rattle.ranked.specs.RankedLaws.{Sound, keeps as ranked-keeps, ranked-lawful, look_none}
 use Rattle.ranked.proofs.Ages.{Rises, rises-later, rises-other, rises-step, oldest-first, ousted-oldest, found_held}

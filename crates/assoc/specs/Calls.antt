@@ -1,5 +1,5 @@
 -- What the call of one set does to the sets of the code.
-use Rattle.std.specs.Prelude.{◌≡◌, ℕ, zero, suc, ◌%◌, ◌<◌, ◌≤◌, true, List, [], ◌∷◌, length, set, vec_items, vec_len, slice_index_or, slice_set}
+use Rattle.std.specs.Prelude.{◌≡◌, ℕ, zero, suc, ◌%◌, ◌<◌, true, List, [], ◌∷◌, length, vec_items, vec_len, slice_index_or, slice_set}
 use Rattle.std.proofs.Common.{sym, ap, subst, ◌∙◌, mod-lt, arith}
 use Rattle.device.specs.Device.{after}
 use Rattle.tier.specs.Meaning.{TierMeaning, TierCall, Lawful}

@@ -1,5 +1,5 @@
 -- A tier of sets: the calls on block n go to set n mod sets.
-use Rattle.std.specs.Prelude.{◌≡◌, ℕ, ◌%◌, true, ◌&&◌, List, [], map, length, set, replicate, is_some, Result, slice_index_or, slice_set}
+use Rattle.std.specs.Prelude.{◌≡◌, ℕ, ◌%◌, true, ◌&&◌, List, [], map, length, replicate, is_some, Result, slice_index_or, slice_set}
 use Rattle.device.specs.Device.{after, device}
 use Rattle.parts.specs.declared.refusal.BuildError.{BuildError}
 use Rattle.tier.specs.Meaning.{TierMeaning, TierView, TierCall, put, take, change, touch, clear, look_of, out_of}

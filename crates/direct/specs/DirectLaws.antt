@@ -1,15 +1,15 @@
 -- A direct tier keeps the laws of a tier, and is direct-mapped.
-use Rattle.std.specs.Prelude.{◌≡◌, ℕ, zero, suc, ◌%◌, ◌<◌, ◌≤◌, Bool, true, false, cond, length, get_or, replicate, is_some as option_is_some, Some, None, Option, ◌≢◌, slice_index_or, slice_set, refl}
+use Rattle.std.specs.Prelude.{◌≡◌, ℕ, zero, suc, ◌%◌, ◌<◌, ◌≤◌, true, cond, length, get_or, is_some as option_is_some, Some, None, Option, ◌≢◌, slice_index_or, slice_set, refl}
 use Rattle.std.proofs.Common.{sym, ap, subst, ◌∙◌, mod-lt, arith, length-set, get_or-set_same, get_or-set_other, ext_get_or, eq-eqb, ne_eqb}
 use Rattle.std.proofs.Math.Decide.{ℕ_discrete}
 use Rattle.std.proofs.lemmas.List.{length-replicate}
 use Rattle.std.specs.Option.{option_map}
-use Rattle.device.specs.Device.{after, Always}
+use Rattle.device.specs.Device.{Always}
 use Rattle.device.specs.Laws.{device_always}
 use Rattle.parts.specs.declared.mark.Mark.{Mark}
 use Rattle.parts.specs.declared.line.Line.{Line}
 use Rattle.parts.specs.Marks.{mark_number}
-use Rattle.tier.specs.Meaning.{TierCall, put, take, change, touch, clear, Holding, line, if_held, look_of, bare, TierLaws, Lawful}
+use Rattle.tier.specs.Meaning.{TierCall, put, take, change, touch, clear, Holding, line, if_held, bare, TierLaws, Lawful}
 use Rattle.tier.specs.Options.{never, none-some, some_same, is_some, some_of}
 use Rattle.tier.specs.Holdings.{held-some, held_none, mark_low}
 use Rattle.direct.specs.Lines.{Lines, slot, at, shows, direct_view, direct_step, direct, empty, Placed}

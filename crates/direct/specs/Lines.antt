@@ -1,7 +1,6 @@
 -- A direct-mapped tier: each block has one line where it may stand.
 use Rattle.std.specs.Prelude.{◌≡◌, ℕ, ◌%◌, cond, List, length, replicate, Some, None, Option, Result, ◌==◌, slice_index_or, slice_set}
 use Rattle.device.specs.Device.{device}
-use Rattle.parts.specs.declared.mark.Mark.{Mark}
 use Rattle.parts.specs.declared.line.Line.{Line}
 use Rattle.parts.specs.declared.refusal.BuildError.{BuildError}
 use Rattle.parts.specs.Marks.{mark_number}

@@ -1,7 +1,7 @@
 -- Worked examples of each kind of tier, of a pile and of a window.
 use Rattle.std.specs.Prelude.{◌≡◌, ℕ, false, List, [], ◌∷◌, Some, Option}
 use Rattle.device.specs.Device.{reach}
-use Rattle.parts.specs.declared.mark.Mark.TheVariants.{Shared, Modified}
+use Rattle.parts.specs.declared.mark.Mark.TheVariants.{Shared}
 use Rattle.parts.specs.declared.line.Line.{Line}
 use Rattle.tier.specs.Meaning.{TierMeaning, TierCall, put, touch, line, look_of, out_of}
 use Rattle.tier.specs.Pile.{pile}

@@ -1,5 +1,5 @@
 -- A study that came to an end leaves the lent table as its memory is.
-use Rattle.std.proofs.Common.{◌≡◌, ℕ, Bool, true, false, cond, eqb, ltb, List, [], ◌∷◌, map, Ok, Err, Result, sym, refl, ap, ◌∙◌, arith}
+use Rattle.std.proofs.Common.{◌≡◌, ℕ, Bool, true, false, cond, eqb, ltb, List, [], ◌∷◌, map, Ok, Err, Result, sym, ap, ◌∙◌, arith}
 use Rattle.memory.specs.declared.cell.Cell.{Cell}
 use Rattle.memory.specs.Meaning.{MemoryMeaning, Lent, size_of, lent_of}
 use Rattle.memory.specs.Flat.{flat}

@@ -1,5 +1,5 @@
 -- A study over a table that the caller lends.
-use Rattle.std.specs.Prelude.{◌≡◌, ℕ, List, [], ◌∷◌, Ok, Err, Option, Result}
+use Rattle.std.specs.Prelude.{◌≡◌, ℕ, List, [], ◌∷◌, Ok, Err, Result}
 use Rattle.memory.specs.declared.cell.Cell.{Cell}
 use Rattle.memory.specs.Meaning.{MemoryMeaning, Lent, lent_of}
 use Rattle.memory.specs.Flat.{flat}

@@ -1,5 +1,5 @@
 -- An access hits just where its block was accessed before and has not left since.
-use Rattle.std.proofs.Common.{◌≡◌, ℕ, zero, suc, ◌<◌, ◌≤◌, Bool, true, false, cond, eqb, ltb, List, [], ◌∷◌, is_some as option_is_some, Some, None, Ok, Err, Option, sym, refl, ap, ◌∙◌, subst, arith, lt-ltb, eq-eqb, ne_eqb, eqb-true}
+use Rattle.std.proofs.Common.{◌≡◌, ℕ, zero, suc, ◌≤◌, Bool, true, false, cond, eqb, ltb, List, [], ◌∷◌, is_some as option_is_some, Some, None, Ok, Err, Option, sym, refl, ap, ◌∙◌, subst, arith, lt-ltb, eq-eqb, ne_eqb}
 use native.Mathlib.Decide.{ℕ_discrete}
 use Rattle.std.specs.Option.{option_map}
 use Rattle.device.specs.Device.{after}
@@ -8,7 +8,7 @@ use Rattle.parts.specs.declared.mark.Mark.TheVariants.{Shared, Modified}
 use Rattle.parts.specs.declared.line.Line.{Line}
 use Rattle.parts.specs.declared.refusal.Refusal.TheVariants.{AlreadyHeld}
 use Rattle.parts.specs.Marks.{mark_of}
-use Rattle.tier.specs.Meaning.{TierMeaning, put, take, touch, clear, Holding, if_held, look_of, out_of, put_answer, bare, Lawful}
+use Rattle.tier.specs.Meaning.{TierMeaning, put, take, touch, clear, Holding, if_held, look_of, out_of, put_answer, Lawful}
 use Rattle.tier.specs.Options.{never, some_same, is_some}
 use Rattle.tier.specs.Holdings.{bare-held}
 use Rattle.profiling.specs.declared.Access.{Access}
@@ -119,6 +119,6 @@ hits_told (n ∷ ns) m ok cached same =
     (t.hit ∙ sym (same n), hits_told ns (accessed m n) t.lawful (noted cached n (answer m n)) (t.noted_so cached same))
 
 -- from a tier that was cleared
-pub cleared_told : (m m' : TierMeaning) → Lawful m → m' ≡ after m clear → (ns : List ℕ) → HitsTold m' (λ _. false) ns
-cleared_told m m' ok e ns =
-    subst (λ (x : TierMeaning). HitsTold x (λ _. false) ns) (sym e) (hits_told ns (after m clear) (λ cs. ok (clear ∷ cs)) (λ _. false) (λ b. sym (ap option_is_some ((ok []).clear_gone b))))
+pub cleared_told : (m x : TierMeaning) → Lawful m → x ≡ after m clear → (ns : List ℕ) → HitsTold x (λ _. false) ns
+cleared_told m x ok e ns =
+    subst (λ (y : TierMeaning). HitsTold y (λ _. false) ns) (sym e) (hits_told ns (after m clear) (λ cs. ok (clear ∷ cs)) (λ _. false) (λ b. sym (ap option_is_some ((ok []).clear_gone b))))

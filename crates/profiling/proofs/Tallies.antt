@@ -1,8 +1,8 @@
 -- The counts are those of the accesses.
-use Rattle.std.proofs.Common.{◌≡◌, ℕ, zero, suc, ◌+◌, ◌<◌, ◌≤◌, min, Bool, true, false, cond, eqb, ltb, List, [], ◌∷◌, length, get_or, set, sym, refl, ap, ◌∙◌, subst, arith, length-set, get_or-set_other, get_or-set_same, ltb-true, lt-ltb, eq-eqb, ne_eqb}
+use Rattle.std.proofs.Common.{◌≡◌, ℕ, zero, suc, ◌+◌, ◌<◌, ◌≤◌, min, Bool, true, false, cond, eqb, ltb, List, [], ◌∷◌, length, get_or, set, sym, refl, ap, ◌∙◌, arith, length-set, get_or-set_other, get_or-set_same, lt-ltb, eq-eqb, ne_eqb}
 use native.Mathlib.Decide.{ℕ_discrete}
 use Rattle.tier.specs.Meaning.{TierMeaning}
-use Rattle.profiling.specs.Access.{accessed, answer, counted, count_of}
+use Rattle.profiling.specs.Access.{accessed, answer, counted}
 use Rattle.profiling.specs.Tallies.{tallied, served_by, CountsAll}
 
 abbrev most : ℕ

@@ -1,5 +1,5 @@
 -- What each movement of a block costs.
-use Rattle.std.specs.Prelude.{ℕ, Bool, true, false, cond, ◌||◌, Ok, Err, Result, ◌==◌, nat_lt}
+use Rattle.std.specs.Prelude.{ℕ, cond, ◌||◌, Ok, Err, Result, ◌==◌, nat_lt}
 use Rattle.protocol.specs.declared.refusal.Refusal.{Refusal}
 use Rattle.protocol.specs.declared.refusal.Refusal.TheVariants.{WeightTooHigh}
 use Rattle.protocol.specs.declared.weights.Movement.{Movement}

@@ -1,5 +1,5 @@
 -- A block that is taken out may stand last again.
-use Rattle.std.proofs.Common.{◌≡◌, ℕ, ◌<◌, ◌≤◌, Bool, true, length, Some, None, vec_items, vec_len, sym, ap, ◌∙◌, arith}
+use Rattle.std.proofs.Common.{◌≡◌, ℕ, ◌<◌, Bool, true, length, Some, None, vec_items, vec_len, sym, ap, ◌∙◌, arith}
 use Rattle.device.specs.Device.{after}
 use Rattle.parts.specs.declared.line.Line.{Line}
 use Rattle.tier.specs.Meaning.{touch}

@@ -1,5 +1,5 @@
 -- A ranked tier keeps the laws of a tier.
-use Rattle.std.specs.Prelude.{◌≡◌, ℕ, suc, ◌<◌, ◌≤◌, Bool, true, false, cond, [], ◌∷◌, ◌++◌, length, is_some as option_is_some, Some, None, Option, ◌≢◌, nat_lt, refl}
+use Rattle.std.specs.Prelude.{◌≡◌, ℕ, ◌≤◌, Bool, true, false, cond, [], ◌∷◌, ◌++◌, length, Some, None, Option, ◌≢◌, nat_lt, refl}
 use Rattle.std.proofs.Common.{sym, ap, subst, ◌∙◌, arith}
 use Rattle.std.proofs.Math.Decide.{ℕ_discrete}
 use Rattle.std.specs.Option.{option_map}
@@ -8,9 +8,9 @@ use Rattle.parts.specs.declared.mark.Mark.{Mark}
 use Rattle.parts.specs.declared.line.Line.{Line}
 use Rattle.parts.specs.Marks.{mark_number}
 use Rattle.tier.specs.Meaning.{TierCall, put, take, change, touch, clear, Holding, line, bare, TierLaws, Lawful}
-use Rattle.tier.specs.Options.{never, none-some, some_same, is_some, some_of}
+use Rattle.tier.specs.Options.{never, none-some, some_same, some_of}
 use Rattle.tier.specs.Holdings.{mark_low}
-use Rattle.ranked.specs.Ranks.{Ranks, find, without, renewed, oldest, younger, ousted, spared, holding, ranked_view, if_found, touched, ranked_step, ranked, apart}
+use Rattle.ranked.specs.Ranks.{Ranks, find, without, oldest, younger, spared, holding, ranked_view, if_found, touched, ranked_step, ranked, apart}
 use Rattle.ranked.specs.RanksLemmas.{find-block, find-without, find-gone, without-none, apart-without, find-push, find-push-other, apart-push, find-renewed, find-renewed-other, renewed-none, apart-renewed, oldest_found, younger-gone, younger-rest, younger-none, apart-younger}
 
 abbrev pub Sound : Ranks → Type 0

@@ -1,5 +1,5 @@
 -- A row of one core: core 0 is that core, and no other is there.
-use Rattle.std.proofs.Common.{◌≡◌, ℕ, zero, suc, Bool, true, false, cond, eqb, ltb, List, [], ◌∷◌, Some, None, Option, refl, ap, ◌∙◌}
+use Rattle.std.proofs.Common.{◌≡◌, ℕ, zero, suc, Bool, true, false, cond, eqb, ltb, [], ◌∷◌, Some, None, Option, refl, ap, ◌∙◌}
 use lib.Dec.{eqb-suc-zero}
 use Rattle.parts.specs.declared.mark.Mark.{Mark}
 use Rattle.parts.specs.Marks.{mark_of}

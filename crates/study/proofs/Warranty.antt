@@ -1,5 +1,5 @@
 -- The warrant, put together.
-use Rattle.std.proofs.Common.{◌≡◌, ℕ, ◌≤◌, Bool, true, false, cond, eqb, ltb, List, Ok, Err, Result, refl, arith, MatchResult}
+use Rattle.std.proofs.Common.{◌≡◌, ℕ, ◌≤◌, Bool, true, false, cond, eqb, ltb, List, Ok, Err, Result, refl, arith}
 use Rattle.std.proofs.lemmas.Bool.{ltb-false}
 use Rattle.memory.specs.Meaning.{MemoryMeaning, size_of}
 use Rattle.protocol.specs.declared.call.Call.{Call}
@@ -9,9 +9,8 @@ use Rattle.protocol.specs.declared.weights.Weights.{Weights}
 use Rattle.protocol.specs.Prices.{Prices}
 use Rattle.protocol.specs.Weighing.{prices_of}
 use Rattle.row.specs.Cores.{CoreMeaning, count_of}
-use Rattle.study.specs.Run.{RunMeaning}
 use Rattle.study.specs.Opening.{opened, opening}
-use Rattle.study.specs.Settling.{Ending, end_of, simulated}
+use Rattle.study.specs.Settling.{Ending, simulated}
 use Rattle.study.specs.Warrant.{Affordable, Warrant}
 use Rattle.study.proofs.Stacking.{piles}
 use Rattle.study.proofs.Counting.{reported}

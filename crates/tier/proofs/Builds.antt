@@ -1,8 +1,7 @@
 -- What holds of the tier that is asked for holds of the tier that is built.
-use Rattle.std.proofs.Common.{◌≡◌, ℕ, ◌≤◌, Bool, true, false, IfOk, Ok, Err, Result, sym, refl, subst, arith}
+use Rattle.std.proofs.Common.{◌≡◌, ℕ, ◌≤◌, Bool, true, false, IfOk, Ok, Err, Result, refl, subst, arith}
 use Rattle.std.proofs.lemmas.Bool.Decides.{nat_tests}
 use Rattle.parts.specs.declared.refusal.BuildError.{BuildError}
-use Rattle.parts.specs.declared.refusal.BuildError.TheVariants.{BadSize, NoMemory}
 use Rattle.tier.specs.Meaning.{TierMeaning}
 use Rattle.tier.specs.Building.{within, in_range_else, Builds}
 

@@ -5,7 +5,7 @@ use Rattle.std.specs.Option.{option_map}
 use Rattle.device.specs.Device.{after}
 use Rattle.parts.specs.declared.mark.Mark.{Mark}
 use Rattle.parts.specs.declared.line.Line.{Line}
-use Rattle.tier.specs.Meaning.{TierMeaning, put, change, touch, Holding, look_of, out_of, bare, Lawful}
+use Rattle.tier.specs.Meaning.{TierMeaning, put, change, touch, Holding, look_of, out_of, Lawful}
 use Rattle.tier.specs.Options.{never, some_same, is_some, some_of}
 use Rattle.tier.specs.Holdings.{bare-held}
 

@@ -1,5 +1,5 @@
 -- A pile holds what its upper tier holds and, of the rest, what its lower tier holds, after any list of calls.
-use Rattle.std.proofs.Common.{◌≡◌, ℕ, ◌+◌, min, true, false, List, [], ◌∷◌, ◌++◌, is_some as option_is_some, Some, None, Option, sym, refl, ap, ◌∙◌, subst}
+use Rattle.std.proofs.Common.{◌≡◌, ℕ, true, List, [], ◌∷◌, ◌++◌, is_some as option_is_some, Some, None, Option, sym, refl, ap, ◌∙◌, subst}
 use native.Mathlib.Decide.{ℕ_discrete}
 use Rattle.std.specs.Option.{option_map}
 use Rattle.device.specs.Device.{after, reach, run}
@@ -9,7 +9,7 @@ use Rattle.parts.specs.declared.line.Line.{Line}
 use Rattle.tier.specs.Meaning.{TierMeaning, TierView, TierCall, put, take, change, touch, clear, Holding, depth_of, look_of, out_of, if_held, bare, Lawful}
 use Rattle.tier.specs.Pile.{Parts, parts, first, pile_look, sink, to_shown, pile_step, pile}
 use Rattle.tier.specs.Stacked.{Stacked, StaysStacked}
-use Rattle.tier.specs.Options.{never, none-some, some_same, is_some, some_of, not_some}
+use Rattle.tier.specs.Options.{never, some_same, is_some, some_of, not_some}
 use Rattle.tier.specs.Holdings.{bare-none, bare-held}
 use Rattle.tier.proofs.Holds.{SameBlocks, change-same, touch-same}
 use Rattle.tier.specs.PileLaws.{block, both_none, Sound, keeps, fu, upper-same, lower-same, away-held}

@@ -1,5 +1,5 @@
 -- What is held, and by which mark.
-use Rattle.std.specs.Prelude.{◌≡◌, ℕ, ◌≤◌, true, is_some, Some, None, Option, refl}
+use Rattle.std.specs.Prelude.{◌≡◌, ◌≤◌, true, is_some, Some, None, Option, refl}
 use Rattle.std.proofs.Common.{sym, ap, arith}
 use Rattle.parts.specs.declared.mark.Mark.{Mark}
 use Rattle.parts.specs.declared.mark.Mark.TheVariants.{Shared, Modified}

@@ -1,5 +1,4 @@
 use Rattle.std.proofs.Common.{◌≡◌, [], ◌∷◌, sym, refl, ap, ◌∙◌}
-use Rattle.memory.specs.declared.flat.Flat.{Flat}
 use Rattle.memory.specs.Meaning.{lent_of}
 use Rattle.memory.specs.Flat.{flat}
 use Rattle.protocol.specs.Weighing.{prices_of}
@@ -20,7 +19,7 @@ returns-in-Ok g c =
     let table = ap (λ f. f.table) (c.weigh.ensures.memory ∙ c.new-draft.ensures.memory) ∙ c.over.ensures in
     let opens : opening (g.R.Row.cores c.weigh.new.self.row) (flat c.weigh.new.self.memory.table.ghost_name c.weigh.new.self.memory.table.now) w ≡ opening cs t w =
     (λ i. opening (g.R.Row.cores (row i)) (flat (table i).ghost_name (table i).now) w) in
-    let starts = weighed-started _ w _ cs t c.in-default.ensures.answer c.weigh.ensures.weights in
+    let starts = weighed-started _ w _ cs t c.in_default.ensures.answer c.weigh.ensures.weights in
     let ends = c.in-Ok.ensures.ending ∙ ap (λ o. simulated o (calls_of turns)) opens in
     let back = returned cs w (calls_of turns) c.args.table.ghost_name _ c.args.table.now _ _ refl ends in
     record {

@@ -1,6 +1,5 @@
 -- Each turn reads one digit more.
-use Rattle.std.proofs.Common.{◌≡◌, ◌+◌, ◌-◌, ◌*◌, ◌<◌, ◌≤◌, length, get_or, drop, sym, ap, ◌∙◌, inl, inr, arith, rules}
-use Rattle.numeral.specs.Number.{digits}
+use Rattle.std.proofs.Common.{◌+◌, ◌-◌, ◌*◌, ◌<◌, get_or, sym, ◌∙◌, inl, inr, arith, rules}
 use Rattle.numeral.proofs.Digits.{plain, not_digit, is_digit_lem, digits_not, digits-over, digits-next, digits_end}
 use Rattle.numeral.proofs.read.Goals as goal
 use Rattle.numeral.proofs.read.Goals.{then-b-lt48-via-then-b-lt48, then-b-lt48-via-else-b-lt48+then-b-gt57}

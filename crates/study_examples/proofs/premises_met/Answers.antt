@@ -1,5 +1,5 @@
 -- Each premise is a lemma of the crate that it speaks of.
-use Rattle.std.proofs.Common.{◌≡◌, ℕ, ◌≤◌, Bool, true, false, cond, eqb, List, [], length, None, Ok, Err, Result, refl, ap, ◌∙◌, arith, le-ltb, ne_eqb}
+use Rattle.std.proofs.Common.{◌≡◌, ℕ, ◌≤◌, Bool, false, cond, eqb, List, [], length, None, Ok, Err, Result, refl, ap, ◌∙◌, arith, le-ltb, ne_eqb}
 use lib.ListN.{length-replicate}
 use Rattle.tier.specs.Meaning.{Lawful as LawfulTier}
 use Rattle.tier.specs.PileLaws.{pile-lawful}

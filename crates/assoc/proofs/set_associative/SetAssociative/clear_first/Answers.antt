@@ -1,5 +1,5 @@
 -- Sets that are cleared one after another are all cleared in the end.
-use Rattle.std.proofs.Common.{◌<◌, length, refl, arith}
+use Rattle.std.proofs.Common.{◌<◌, refl, arith}
 use Rattle.tier.specs.Meaning.{clear}
 use Rattle.assoc.specs.Sets.{lru_of}
 use Rattle.assoc.specs.SetAssociative.{sets_of}

@@ -1,4 +1,4 @@
-use Rattle.std.proofs.Common.{◌≡◌, ◌≤◌, vec_len}
+use Rattle.std.proofs.Common.{◌≡◌, vec_len}
 use Rattle.assoc.specs.SetAssociative.{sets_of}
 use Rattle.assoc.proofs.Clears.{Cleared}
 use Rattle.assoc.proofs.set_associative.SetAssociative.clear_first.Given as goal

@@ -1,5 +1,5 @@
 -- The answer of the set is that of its meaning, and the set alone is altered.
-use Rattle.std.proofs.Common.{◌≡◌, ap, ◌∙◌, rules}
+use Rattle.std.proofs.Common.{ap, ◌∙◌}
 use Rattle.tier.specs.Meaning.{take, look_of}
 use Rattle.assoc.specs.Sets.{called}
 use Rattle.assoc.specs.SetAssociative.{sets_of}

@@ -1,5 +1,5 @@
 -- A block that is not there yet may stand last.
-use Rattle.std.proofs.Common.{ap, ◌∙◌, rules}
+use Rattle.std.proofs.Common.{ap, ◌∙◌}
 use Rattle.ranked.specs.Ranks.{apart}
 use Rattle.ranked.specs.RanksLemmas.{apart-push}
 use Rattle.ranked.proofs.ranked.Ranked.append.Goals as goal

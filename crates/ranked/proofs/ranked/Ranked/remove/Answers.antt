@@ -1,5 +1,5 @@
 -- No block stands twice where one is taken out.
-use Rattle.std.proofs.Common.{ap, ◌∙◌, rules}
+use Rattle.std.proofs.Common.{ap, ◌∙◌}
 use Rattle.ranked.specs.Ranks.{apart}
 use Rattle.ranked.specs.RanksLemmas.{apart-without}
 use Rattle.ranked.proofs.ranked.Ranked.remove.Goals as goal

@@ -1,5 +1,5 @@
 -- One core, cleared and ready.
-use Rattle.std.proofs.Common.{◌≡◌, [], ◌∷◌}
+use Rattle.std.proofs.Common.{[], ◌∷◌}
 use Rattle.row.specs.Cores.{core, renewed}
 use Rattle.row.proofs.one_core.CoreRow.renew.Goals as goal
 

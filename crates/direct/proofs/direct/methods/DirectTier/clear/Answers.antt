@@ -1,5 +1,5 @@
 -- Lines that are all free are the empty lines.
-use Rattle.std.proofs.Common.{◌≡◌, sym, ap, ◌∙◌, arith}
+use Rattle.std.proofs.Common.{sym, ap, ◌∙◌, arith}
 use Rattle.direct.specs.Lines.{direct}
 use Rattle.direct.specs.DirectLaws.{all_none}
 use Rattle.direct.proofs.direct.methods.DirectTier.clear.Goals as goal

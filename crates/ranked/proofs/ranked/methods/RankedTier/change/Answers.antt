@@ -1,5 +1,5 @@
 -- No block stands twice where one is renewed.
-use Rattle.std.proofs.Common.{refl, ap, ◌∙◌, rules}
+use Rattle.std.proofs.Common.{refl, ap, ◌∙◌}
 use Rattle.tier.specs.Meaning.{line}
 use Rattle.ranked.specs.Ranks.{apart}
 use Rattle.ranked.specs.RanksLemmas.{apart-renewed}

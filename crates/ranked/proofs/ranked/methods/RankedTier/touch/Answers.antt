@@ -1,5 +1,5 @@
 -- A block that is taken out may stand last again.
-use Rattle.std.proofs.Common.{◌≡◌, true, Ok, Err, sym, ap, ◌∙◌}
+use Rattle.std.proofs.Common.{Ok, Err, sym, ap}
 use Rattle.std.specs.Option.{option_map}
 use Rattle.parts.specs.declared.refusal.Refusal.TheVariants.{NotHeld}
 use Rattle.tier.specs.Meaning.{if_held}
