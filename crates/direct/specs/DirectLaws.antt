@@ -1,5 +1,5 @@
 -- A direct tier keeps the laws of a tier, and is direct-mapped.
-use Rattle.std.specs.Prelude.{◌≡◌, ℕ, zero, suc, ◌%◌, ◌<◌, ◌≤◌, true, cond, length, get_or, is_some as option_is_some, Some, None, Option, ◌≢◌, slice_index_or, slice_set, refl}
+use Rattle.std.specs.Prelude.{◌≡◌, ℕ, zero, suc, ◌%◌, ◌<◌, ◌≤◌, true, cond, length, get_or, is_some, Some, None, Option, ◌≢◌, slice_index_or, slice_set, refl}
 use Rattle.std.proofs.Common.{sym, ap, subst, ◌∙◌, mod-lt, arith, length-set, get_or-set_same, get_or-set_other, ext_get_or, eq-eqb, ne_eqb}
 use Rattle.std.proofs.Math.Decide.{ℕ_discrete}
 use Rattle.std.proofs.lemmas.List.{length-replicate}
@@ -10,9 +10,11 @@ use Rattle.parts.specs.declared.mark.Mark.{Mark}
 use Rattle.parts.specs.declared.line.Line.{Line}
 use Rattle.parts.specs.Marks.{mark_number}
 use Rattle.tier.specs.Meaning.{TierCall, put, take, change, touch, clear, Holding, line, if_held, bare, TierLaws, Lawful}
-use Rattle.tier.specs.Options.{never, none-some, some_same, is_some, some_of}
+use Rattle.tier.specs.Options.{never, none-some, some_same, is_some_lem, some_of}
 use Rattle.tier.specs.Holdings.{held-some, held_none, mark_low}
+use Rattle.direct.specs.declared.direct.Direct.{Direct}
 use Rattle.direct.specs.Lines.{Lines, slot, at, shows, direct_view, direct_step, direct, empty, Placed}
+use Rattle.direct.specs.Direct.{direct_of}
 use Rattle.direct.specs.Mapped.{DirectMapped}
 
 abbrev holding : Line → Holding
@@ -157,7 +159,7 @@ module _ (lines : ℕ) (ls : Lines) (ok : Sound lines ls) where
     take_rest = λ n b ne. beside (look ls n) n b None ne refl refl;
     change_in = λ n k s h e.
         let r = shown-own (at ls n) n h e in
-        ap (λ ms. look ms n) (held-some (look ls n) _ _ (is_some _ h e)) ∙ at_same n n (Some (line n k s)) refl ∙ shows-own (line n k s) n refl
+        ap (λ ms. look ms n) (held-some (look ls n) _ _ (is_some_lem _ h e)) ∙ at_same n n (Some (line n k s)) refl ∙ shows-own (line n k s) n refl
         ∙ ap (λ (x : Holding). Some (mark_number k, s, x.2)) r.3;
     change_rest = λ n k s b ne. beside (look ls n) n b (Some (line n k s)) ne (shows-other (line n k s) b (λ q. ne (sym q))) refl;
     touch_look = λ n b. refl;
@@ -170,7 +172,7 @@ module _ (lines : ℕ) (ls : Lines) (ok : Sound lines ls) where
 
   -- ---- direct mapping
 
-  line_of : (b : ℕ) → option_is_some (look ls b) ≡ true → (g : Line) × (at ls b ≡ Some g) × (g.block ≡ b)
+  line_of : (b : ℕ) → is_some (look ls b) ≡ true → (g : Line) × (at ls b ≡ Some g) × (g.block ≡ b)
   line_of b h = let x = some_of (look ls b) h in let r = shown-own (at ls b) b x.0 x.1 in (r.0, r.1, r.2)
 
   slots : (a b : ℕ) → a % lines ≡ b % lines → slot ls a ≡ slot ls b
@@ -190,14 +192,18 @@ module _ (lines : ℕ) (ls : Lines) (ok : Sound lines ls) where
     untouched = λ n. refl;
   }
     where
-      go : (n : ℕ) → ((b : ℕ) → option_is_some (look ls b) ≡ true → b % lines ≢ n % lines) → (o : Option Line) → at ls n ≡ o → at ls n ≡ None
+      go : (n : ℕ) → ((b : ℕ) → is_some (look ls b) ≡ true → b % lines ≢ n % lines) → (o : Option Line) → at ls n ≡ o → at ls n ≡ None
       go n h None e = e
       go n h (Some g) e =
           let r = there n g e in
-          absurd (h g.block (is_some (look ls g.block) (holding g) r.1) (sym (ap (λ m. g.block % m) ok.1) ∙ r.0 ∙ ap (λ m. n % m) ok.1))
+          absurd (h g.block (is_some_lem (look ls g.block) (holding g) r.1) (sym (ap (λ m. g.block % m) ok.1) ∙ r.0 ∙ ap (λ m. n % m) ok.1))
 
 pub direct-lawful : (lines : ℕ) (ls : Lines) → Sound lines ls → Lawful (direct ls)
 direct-lawful lines = device_always (λ _. 1) direct_view direct_step (λ s c. refl) TierLaws (Sound lines) (λ s c i. keeps lines s i c) (laws lines)
+
+-- of the tier that the code has
+pub direct_of-lawful : (d : Direct) → Lawful (direct_of d)
+direct_of-lawful d = direct-lawful (length d.lines.items) d.lines.items (omega (arith, d.some, d.lines.ok.0), refl, d.placed)
 
 pub direct_mapped : (lines : ℕ) → 1 ≤ lines → Always (DirectMapped lines) (direct (empty lines))
 direct_mapped lines h =

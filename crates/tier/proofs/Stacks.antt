@@ -1,5 +1,5 @@
 -- A pile holds what its upper tier holds and, of the rest, what its lower tier holds, after any list of calls.
-use Rattle.std.proofs.Common.{◌≡◌, ℕ, true, List, [], ◌∷◌, ◌++◌, is_some as option_is_some, Some, None, Option, sym, refl, ap, ◌∙◌, subst}
+use Rattle.std.proofs.Common.{◌≡◌, ℕ, true, List, [], ◌∷◌, ◌++◌, is_some, Some, None, Option, sym, refl, ap, ◌∙◌, subst}
 use native.Mathlib.Decide.{ℕ_discrete}
 use Rattle.std.specs.Option.{option_map}
 use Rattle.device.specs.Device.{after, reach, run}
@@ -9,14 +9,14 @@ use Rattle.parts.specs.declared.line.Line.{Line}
 use Rattle.tier.specs.Meaning.{TierMeaning, TierView, TierCall, put, take, change, touch, clear, Holding, depth_of, look_of, out_of, if_held, bare, Lawful}
 use Rattle.tier.specs.Pile.{Parts, parts, first, pile_look, sink, to_shown, pile_step, pile}
 use Rattle.tier.specs.Stacked.{Stacked, StaysStacked}
-use Rattle.tier.specs.Options.{never, some_same, is_some, some_of, not_some}
+use Rattle.tier.specs.Options.{never, some_same, is_some_lem, some_of, not_some}
 use Rattle.tier.specs.Holdings.{bare-none, bare-held}
 use Rattle.tier.proofs.Holds.{SameBlocks, change-same, touch-same}
 use Rattle.tier.specs.PileLaws.{block, both_none, Sound, keeps, fu, upper-same, lower-same, away-held}
 
 -- no block is in both parts
 abbrev Apart : Parts → Type 0
-Apart p = (n : ℕ) → option_is_some (look_of p.upper n) ≡ true → look_of p.lower n ≡ None
+Apart p = (n : ℕ) → is_some (look_of p.upper n) ≡ true → look_of p.lower n ≡ None
 
 module _ (p : Parts) (ok : Sound p) (apart : Apart p) where
   abbrev u : TierMeaning
@@ -29,13 +29,13 @@ module _ (p : Parts) (ok : Sound p) (apart : Apart p) where
   apart-shown n c su sl = go (look_of u n)
     where
       go : (o : Option Holding) → Apart (if_held o (parts (after u c) l) (parts u (after l c)))
-      go None b h = not_some (look_of (after l c) b) (sl b ∙ ap option_is_some (apart b h))
+      go None b h = not_some (look_of (after l c) b) (sl b ∙ ap is_some (apart b h))
       go (Some x) b h = apart b (sym (su b) ∙ h)
 
   apart-take : (n : ℕ) → Apart (pile_step p (take n))
   apart-take n b h = elim (ℕ_discrete b n) [
     | yes q ↦ ap (look_of (after l (take n))) q ∙ (ok.1 []).take_gone n
-    | no q ↦ (ok.1 []).take_rest n b q ∙ apart b (sym (ap option_is_some ((ok.0 []).take_rest n b q)) ∙ h)
+    | no q ↦ (ok.1 []).take_rest n b q ∙ apart b (sym (ap is_some ((ok.0 []).take_rest n b q)) ∙ h)
   ]
 
   module _ (n : ℕ) (k : Mark) (s : ℕ) (free : pile_look p n ≡ None) where
@@ -43,10 +43,10 @@ module _ (p : Parts) (ok : Sound p) (apart : Apart p) where
     u' = after u (put n k s)
 
     -- of a block that the upper holds after the put, the lower held nothing before
-    was_free : (b : ℕ) → option_is_some (look_of u' b) ≡ true → ((b ≡ n → ⊥) → bare (look_of u' b) ≡ bare (look_of u b)) → look_of l b ≡ None
+    was_free : (b : ℕ) → is_some (look_of u' b) ≡ true → ((b ≡ n → ⊥) → bare (look_of u' b) ≡ bare (look_of u b)) → look_of l b ≡ None
     was_free b h same = elim (ℕ_discrete b n) [
       | yes q ↦ ap (look_of l) q ∙ (both_none (depth_of u) (look_of u n) (look_of l n) free).1
-      | no q ↦ apart b (sym (bare-held (look_of u b)) ∙ sym (ap option_is_some (same q)) ∙ bare-held (look_of u' b) ∙ h)
+      | no q ↦ apart b (sym (bare-held (look_of u b)) ∙ sym (ap is_some (same q)) ∙ bare-held (look_of u' b) ∙ h)
     ]
 
     module _ (g : Line) (fell : out_of u n k s ≡ Some g) where
@@ -65,7 +65,7 @@ module _ (p : Parts) (ok : Sound p) (apart : Apart p) where
           let same : x.block ≡ b = some_same x.block b (sym (ap (option_map block) q) ∙ r) in
           never _ (sym (ap bare (ap (look_of l) same ∙ e)) ∙ (away-held p ok n k s free g fell x q).1)
 
-      apart-sunk : (b : ℕ) → option_is_some (look_of u' b) ≡ true → look_of laid b ≡ None
+      apart-sunk : (b : ℕ) → is_some (look_of u' b) ≡ true → look_of laid b ≡ None
       apart-sunk b h =
           let ng : b ≡ g.block → ⊥ = λ q. never _ (sym (ap (look_of u') q ∙ (ok.0 []).out_gone n k s g (fu p ok n k s free) fell) ∙ (some_of (look_of u' b) h).1) in
           let e = was_free b h (λ nn. upper-same p ok n k s free g fell b nn ng) in
@@ -143,7 +143,7 @@ stacked p u l e apart = record {
   upper = λ n h q. e n ∙ ap (λ o. first (depth_of u) o (look_of l n)) q;
   lower = λ n h q r. e n ∙ ap (λ o. first (depth_of u) o (look_of l n)) q ∙ ap (first (depth_of u) None) r;
   neither = λ n q r. e n ∙ ap (λ o. first (depth_of u) o (look_of l n)) q ∙ ap (first (depth_of u) None) r;
-  apart = λ n h q. apart n (is_some (look_of u n) h q);
+  apart = λ n h q. apart n (is_some_lem (look_of u n) h q);
 }
 
 apart-stays : (u l : TierMeaning) → Lawful u → Lawful l → Apart (parts u l) → StaysStacked (pile u l) u l

@@ -1,5 +1,5 @@
 -- Cases of an option.
-use Rattle.std.specs.Prelude.{◌≡◌, ℕ, true, false, is_some as option_is_some, Some, None, Option, refl}
+use Rattle.std.specs.Prelude.{◌≡◌, ℕ, true, false, is_some, Some, None, Option, refl}
 use Rattle.std.proofs.Common.{ap, arith}
 
 module _ {X : Type 0} where
@@ -12,13 +12,13 @@ module _ {X : Type 0} where
   pub some_same : (x y : X) → ◌≡◌ {A = Option X} (Some x) (Some y) → x ≡ y
   some_same x y e = cc
 
-  pub is_some : (o : Option X) (x : X) → o ≡ Some x → option_is_some o ≡ true
-  is_some o x e = ap option_is_some e
+  pub is_some_lem : (o : Option X) (x : X) → o ≡ Some x → is_some o ≡ true
+  is_some_lem o x e = ap is_some e
 
-  pub some_of : (o : Option X) → option_is_some o ≡ true → (x : X) × (o ≡ Some x)
+  pub some_of : (o : Option X) → is_some o ≡ true → (x : X) × (o ≡ Some x)
   some_of None h = let z : ◌≡◌ {A = ℕ} 0 1 = cc in absurd (omega arith)
   some_of (Some x) h = (x, refl)
 
-  pub not_some : (o : Option X) → option_is_some o ≡ false → o ≡ None
+  pub not_some : (o : Option X) → is_some o ≡ false → o ≡ None
   not_some None h = refl
   not_some (Some x) h = let z : ◌≡◌ {A = ℕ} 0 1 = cc in absurd (omega arith)

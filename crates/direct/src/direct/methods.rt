@@ -1,12 +1,11 @@
 //! What a direct tier does.
-ghost use Rattle.std.specs.Prelude.{◌≡◌, ◌<◌, ◌≤◌, length, IfOk, vec_len, refl};
+ghost use Rattle.std.specs.Prelude.{◌≡◌, ◌<◌, ◌≤◌, IfOk, vec_len};
 ghost use Rattle.device.specs.Device.{Always};
 ghost use Rattle.tier.specs.Building.{Builds};
 ghost use Rattle.direct.specs.Lines.{slot, direct, empty, built};
 ghost use Rattle.direct.specs.Direct.{direct_of};
 ghost use Rattle.direct.specs.Mapped.{DirectMapped};
-ghost use Rattle.std.proofs.Common.{arith};
-ghost use Rattle.direct.specs.DirectLaws.{direct-lawful};
+ghost use Rattle.direct.specs.DirectLaws.{direct_of-lawful};
 
 use crate::direct::Direct;
 use parts::line::Line;
@@ -58,7 +57,7 @@ impl Direct {
 impl Tier for Direct {
     ghost meaning = { direct_of };
 
-    ghost lawful = { λ d. direct-lawful (length d.lines.items) d.lines.items (omega (arith, d.some, d.lines.ok.0), refl, d.placed) };
+    ghost lawful = { direct_of-lawful };
 
     fn depth(&self) -> u8 {
         1
