@@ -5,8 +5,8 @@ usage: python3 tools/respell.py     once, at the top of the repository, right af
 
 What stands in specs/ and in the lemma files of proofs/ is respelt: a word in mixed case becomes one in snake case, a field's dashes
 become underscores, and of a lemma's dashes those stay that join two names. Facts, types and modules keep their capitals; names of
-src/ and names that the toolchain makes (answers, invariants, goals) keep their spelling. Three names would have fallen together
-with others and have a new one: the lemma is_digit, the lemma mark-of, and the example pile-out.
+src/ and names that the toolchain makes (answers, invariants, goals) keep their spelling. Four names would have fallen together
+with others and have a new one: the lemmas is_digit, mark-of and is_some, and the example pile-out.
 """
 
 import os
@@ -298,6 +298,18 @@ def respell(text, names, prose):
     return "".join(out) + turn(text[at:], names)
 
 
+def apart(text, path):
+    """The lemma is_some of tier/specs/Options.antt gets a name of its own, beside the library's word."""
+    own = path.endswith(os.path.join("tier", "specs", "Options.antt"))
+    lines = text.split("\n")
+    if own:
+        lines = [re.sub(r"^( *(?:pub )?)is_some( : | o x )", r"\1is_some_lem\2", line) for line in lines]
+    elif re.search(r"Rattle\.tier\.specs\.Options\.\{[^}]*\bis_some\b", text):
+        alone = re.compile(r"(?<![\w'.-])is_some(?![\w'-])")
+        lines = [line if line.startswith("use Rattle.std.") else alone.sub("is_some_lem", line) for line in lines]
+    return "\n".join(lines).replace("is_some as option_is_some", "is_some").replace("option_is_some", "is_some")
+
+
 def main():
     top = os.path.dirname(os.path.dirname(os.path.abspath(__file__)))
     names = dict(line.split() for line in NAMES.split("\n") if line)
@@ -305,7 +317,7 @@ def main():
     for path in [*files(os.path.join(top, "crates"), ".antt", ".rt"), *files(os.path.join(top, "docs"), ".md"), os.path.join(top, "README.md")]:
         with open(path, encoding="utf-8") as f:
             text = f.read()
-        new = respell(text, names, PROSE[os.path.splitext(path)[1]])
+        new = apart(respell(text, names, PROSE[os.path.splitext(path)[1]]), path)
         if new != text:
             with open(path, "w", encoding="utf-8") as f:
                 f.write(new)
