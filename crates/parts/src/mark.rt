@@ -1,6 +1,6 @@
 //! The mark of a cached block.
 ghost use Rattle.std.specs.Prelude.{◌≡◌};
-ghost use Rattle.parts.specs.Marks.{mark_number, mark_of};
+ghost use Rattle.parts.specs.Marks.{mark_number, Reads};
 
 /// Shared: main memory and other cores may have the same copy. Modified: this copy alone is current.
 #[derive(Clone, Copy, PartialEq, Eq, Debug)]
@@ -9,25 +9,33 @@ pub enum Mark {
     Modified,
 }
 
-impl Mark {
-    /// The number that stands for the mark in what a tier shows.
-    pub fn number(self) -> u8
-        ensures { result ≡ mark_number self }
-    {
-        match self {
+/// A number that stands for no mark.
+#[derive(Clone, Copy, PartialEq, Eq, Debug)]
+pub struct UnknownMark(pub u8);
+
+/// The number that stands for the mark in what a tier shows.
+impl From<Mark> for u8 {
+    ghost from_gives = { λ mark number. number ≡ mark_number mark };
+
+    fn from(mark: Mark) -> u8 {
+        match mark {
             Mark::Shared => 0,
             Mark::Modified => 1,
         }
     }
+}
 
-    /// The mark that a number stands for.
-    pub fn from_number(number: u8) -> Option<Mark>
-        ensures { result ≡ mark_of number }
-    {
+/// The mark that a number stands for.
+impl TryFrom<u8> for Mark {
+    type Error = UnknownMark;
+
+    ghost try_from_gives = { Reads };
+
+    fn try_from(number: u8) -> Result<Mark, UnknownMark> {
         match number {
-            0 => Some(Mark::Shared),
-            1 => Some(Mark::Modified),
-            _ => None,
+            0 => Ok(Mark::Shared),
+            1 => Ok(Mark::Modified),
+            _ => Err(UnknownMark(number)),
         }
     }
 }

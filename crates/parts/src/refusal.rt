@@ -1,7 +1,7 @@
 //! What a tier refuses.
-ghost use Rattle.std.specs.Prelude.{◌≡◌};
+ghost use Rattle.std.specs.Prelude.{◌≡◌, if◌then◌else◌};
 ghost use Rattle.parts.specs.declared.refusal.BuildError.TheVariants.{NoMemory};
-ghost use Rattle.parts.specs.Refusals.{refusal_number, build_number};
+ghost use Rattle.parts.specs.Refusals.{refusal_number, build_number, tier_of, Built};
 
 use std::alloc::AllocError;
 
@@ -13,12 +13,12 @@ pub enum Refusal {
     NotHeld,
 }
 
-impl Refusal {
-    /// The number by which a report names the refusal.
-    pub fn number(self) -> u8
-        ensures { result ≡ refusal_number self }
-    {
-        match self {
+/// The number by which a report names the refusal.
+impl From<Refusal> for u8 {
+    ghost from_gives = { λ refusal number. number ≡ refusal_number refusal };
+
+    fn from(refusal: Refusal) -> u8 {
+        match refusal {
             Refusal::AlreadyHeld => 10,
             Refusal::NotHeld => 11,
         }
@@ -36,12 +36,42 @@ pub enum BuildError<T> {
 
 impl<T> BuildError<T> {
     /// The number by which a report names the refusal; want of memory has none.
+    // No `From`: it only looks, and may have no number to give.
     pub fn number(&self) -> Option<u8>
         ensures { result ≡ build_number self.now }
     {
         match self {
             BuildError::BadSize(_) => Some(12),
             BuildError::NoMemory => None,
+        }
+    }
+
+    /// The tier that was made all the same.
+    pub fn into_tier(self) -> Result<T, AllocError>
+    where
+        T: Drop,
+        ensures { result ≡ tier_of self }
+    {
+        match self {
+            BuildError::BadSize(tier) => Ok(tier),
+            BuildError::NoMemory => Err(AllocError),
+        }
+    }
+
+    /// What a constructor answers: a tier of the sizes asked for if they fit, else a refusal with the smallest tier.
+    pub fn build<S: Drop, F: FnOnce(S) -> Result<T, AllocError>>(
+        fits: bool,
+        asked: S,
+        smallest: S,
+        make: F,
+    ) -> Result<T, BuildError<T>>
+        requires { F.pre make (if fits then asked else smallest) }
+        ensures { Built fits (F.post make (if fits then asked else smallest)) result }
+    {
+        if fits {
+            Ok(make(asked)?)
+        } else {
+            Err(BuildError::BadSize(make(smallest)?))
         }
     }
 }

@@ -6,7 +6,6 @@ ghost use Rattle.device.specs.Device.{after};
 ghost use Rattle.tier.specs.Meaning.{TierMeaning, Lawful, put, take, change, touch, clear, depth_of, look_of, put_answer, held_answer};
 
 use parts::line::Line;
-use parts::mark::Mark;
 use parts::refusal::Refusal;
 
 pub mod pile;
@@ -23,20 +22,20 @@ pub trait Tier {
     fn look(&self, block: u16) -> Option<(u8, u32, u8)>
         ensures { result ≡ look_of (meaning self.now) block };
 
-    /// Holds a block at level 1. The block that leaves to make room is given out.
-    fn put(&mut self, block: u16, mark: Mark, stamp: u32) -> Result<Option<Line>, Refusal>
-        ensures answer { result ≡ put_answer (meaning self.old) block mark stamp }
-        ensures next { meaning self.new ≡ after (meaning self.old) (put block mark stamp) };
+    /// Holds the line's block at level 1. The block that leaves to make room is given out.
+    fn put(&mut self, line: Line) -> Result<Option<Line>, Refusal>
+        ensures answer { result ≡ put_answer (meaning self.old) line.block line.mark line.stamp }
+        ensures next { meaning self.new ≡ after (meaning self.old) (put line.block line.mark line.stamp) };
 
     /// Frees a block, and answers as `look` did.
     fn take(&mut self, block: u16) -> Option<(u8, u32, u8)>
         ensures answer { result ≡ look_of (meaning self.old) block }
         ensures next { meaning self.new ≡ after (meaning self.old) (take block) };
 
-    /// Gives a held block a new mark and stamp, at the level where it is.
-    fn change(&mut self, block: u16, mark: Mark, stamp: u32) -> Result<(), Refusal>
-        ensures answer { result ≡ held_answer (meaning self.old) block }
-        ensures next { meaning self.new ≡ after (meaning self.old) (change block mark stamp) };
+    /// Gives a held block the line's mark and stamp, at the level where it is.
+    fn change(&mut self, line: Line) -> Result<(), Refusal>
+        ensures answer { result ≡ held_answer (meaning self.old) line.block }
+        ensures next { meaning self.new ≡ after (meaning self.old) (change line.block line.mark line.stamp) };
 
     /// Tells that a held block was used.
     fn touch(&mut self, block: u16) -> Result<(), Refusal>

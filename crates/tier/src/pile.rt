@@ -8,7 +8,6 @@ ghost use Rattle.tier.specs.PileLaws.{pile-lawful};
 
 use crate::Tier;
 use parts::line::Line;
-use parts::mark::Mark;
 use parts::refusal::Refusal;
 
 /// Two tiers as one: a block that leaves the upper sinks into the lower.
@@ -43,10 +42,7 @@ fn sink_into<L: Tier>(lower: &mut L, line: Line) -> Option<Line>
     ensures next { L.Tier.meaning lower.new ≡ sink (L.Tier.meaning lower.old) (Some line) }
 {
     let _ = lower.take(line.block);
-    match lower.put(line.block, line.mark, line.stamp) {
-        Ok(out) => out,
-        Err(_) => None,
-    }
+    lower.put(line).unwrap_or(None)
 }
 
 impl<U: Tier, L: Tier> Tier for Pile<U, L> {
@@ -62,28 +58,19 @@ impl<U: Tier, L: Tier> Tier for Pile<U, L> {
         if let Some(shown) = self.upper.look(block) {
             return Some(shown);
         }
-        match self.lower.look(block) {
-            Some((mark, stamp, level)) => Some((mark, stamp, (self.upper.depth() + level).min(4))),
-            None => None,
-        }
+        let (mark, stamp, level) = self.lower.look(block)?;
+        Some((mark, stamp, (self.upper.depth() + level).min(4)))
     }
 
-    fn put(&mut self, block: u16, mark: Mark, stamp: u32) -> Result<Option<Line>, Refusal> {
-        match self.look(block) {
-            Some(_) => Err(Refusal::AlreadyHeld),
-            None => {
-                let Some(fallen) = self.upper.put(block, mark, stamp)? else {
-                    return Ok(None);
-                };
-                let Some(out) = sink_into(&mut self.lower, fallen) else {
-                    return Ok(None);
-                };
-                match self.upper.look(out.block) {
-                    Some(_) => Ok(None),
-                    None => Ok(Some(out)),
-                }
-            }
+    fn put(&mut self, line: Line) -> Result<Option<Line>, Refusal> {
+        if self.look(line.block).is_some() {
+            return Err(Refusal::AlreadyHeld);
         }
+        let Some(fallen) = self.upper.put(line)? else {
+            return Ok(None);
+        };
+        let out = sink_into(&mut self.lower, fallen);
+        Ok(out.filter(|out| self.upper.look(out.block).is_none()))
     }
 
     fn take(&mut self, block: u16) -> Option<(u8, u32, u8)> {
@@ -93,17 +80,19 @@ impl<U: Tier, L: Tier> Tier for Pile<U, L> {
         shown
     }
 
-    fn change(&mut self, block: u16, mark: Mark, stamp: u32) -> Result<(), Refusal> {
-        match self.upper.look(block) {
-            Some(_) => self.upper.change(block, mark, stamp),
-            None => self.lower.change(block, mark, stamp),
+    fn change(&mut self, line: Line) -> Result<(), Refusal> {
+        if self.upper.look(line.block).is_some() {
+            self.upper.change(line)
+        } else {
+            self.lower.change(line)
         }
     }
 
     fn touch(&mut self, block: u16) -> Result<(), Refusal> {
-        match self.upper.look(block) {
-            Some(_) => self.upper.touch(block),
-            None => self.lower.touch(block),
+        if self.upper.look(block).is_some() {
+            self.upper.touch(block)
+        } else {
+            self.lower.touch(block)
         }
     }
 

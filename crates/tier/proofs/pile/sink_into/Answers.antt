@@ -3,14 +3,8 @@ use Rattle.std.proofs.Common.{rules}
 use Rattle.tier.proofs.Moves.{put-taken}
 use Rattle.tier.proofs.pile.sink_into.Goals as goal
 
-pub returns-in-Err : goal.returns-in-Err
-returns-in-Err g c =
-    let x = c.args.line in
-    let e = put-taken _ _ x.block x.mark x.stamp _ (g.met.L.Tier.lawful c.args.lower.now) c.take.ensures.next c.put.ensures.answer in
-    search rules
-
-pub returns-in-Ok : goal.returns-in-Ok
-returns-in-Ok g c =
+pub returns-clause-answer : goal.returns-clause-answer
+returns-clause-answer g c =
     let x = c.args.line in
     let e = put-taken _ _ x.block x.mark x.stamp _ (g.met.L.Tier.lawful c.args.lower.now) c.take.ensures.next c.put.ensures.answer in
     search rules
