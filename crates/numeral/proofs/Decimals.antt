@@ -3,10 +3,9 @@ use Rattle.std.proofs.Common.{◌≡◌, ℕ, ◌+◌, ◌-◌, ◌*◌, ◌^◌
 use Rattle.std.specs.Str.{all_ascii_digits}
 use Rattle.std.proofs.lemmas.Str.Parse.{IsNumeralModel, numerals_by_fold}
 use Rattle.std.proofs.lemmas.Fmt.{digits_decimal, digits_value-decimal, decimal-digits_value, decimal_nonempty, first_decimal, decimal_digit}
-use Rattle.std.proofs.lemmas.Bool.{cond-true, lt-ltb, ltb-true, and_parts, and_from, cases_eq, eqb-false}
+use Rattle.std.proofs.lemmas.Bool.{ne_eqb, cond-true, cond-false, lt-ltb, ltb-true, and_parts, and_from, cases_eq, eqb-false}
 use Rattle.numeral.specs.declared.BadNumber.{BadNumber}
 use Rattle.numeral.specs.Number.{is_digit, digits, number_of, ReadsDecimals}
-use Rattle.numeral.proofs.Digits.{plain}
 
 abbrev value : ℕ → List ℕ → ℕ
 value n [] = n
@@ -62,6 +61,13 @@ written n (b ∷ bs) a h =
     let d = and_parts (is_digit b) (all_ascii_digits bs) a in
     let small : 10 * n + (b - 48) < 65536 = omega (arith, grows (10 * n + (b - 48)) bs) in
     cond-true _ _ _ d.0 ∙ cond-true _ _ _ (lt-ltb _ _ small) ∙ written (10 * n + (b - 48)) bs d.1 h
+
+-- without a leading zero the digits decide
+plain : (s : List ℕ) → 0 < length s → ((get_or s 0 0 ≡ 48) × (length s ≤ 1)) ⊎ (get_or s 0 0 ≡ 48 → ⊥) → number_of s ≡ digits 0 s
+plain [] h w = absurd (omega arith)
+plain (b ∷ []) h w = refl
+plain (b ∷ c ∷ s) h (inl w) = absurd (omega arith)
+plain (b ∷ c ∷ s) h (inr w) = cond-false _ _ _ (ne_eqb _ _ w)
 
 backward : (n : ℕ) → n < 65536 → number_of (decimal n) ≡ Ok n
 backward n h =

@@ -4,14 +4,19 @@
 ghost use Rattle.std.specs.Prelude.{◌≡◌};
 ghost use Rattle.numeral.specs.Number.{number_of, ReadsDecimals};
 
+use thiserror::Error;
+
 /// Why bytes are no number.
-#[derive(Clone, Copy, PartialEq, Eq, Debug)]
+#[derive(Clone, Copy, PartialEq, Eq, Debug, Error)]
 pub enum BadNumber {
     /// There are no bytes.
+    #[error("there is no block number")]
     Empty,
     /// A byte is no digit, or a zero leads.
+    #[error("not a decimal number without leading zeros")]
     NotDecimal,
     /// The number is above 65,535.
+    #[error("block numbers end at 65535")]
     TooLarge,
 }
 
@@ -26,21 +31,18 @@ pub fn block_number(bytes: &[u8]) -> Result<u16, BadNumber>
 fn read(bytes: &[u8]) -> Result<u16, BadNumber>
     ensures { result ≡ number_of bytes.now }
 {
-    if bytes.is_empty() {
-        return Err(BadNumber::Empty);
+    match bytes {
+        [] => return Err(BadNumber::Empty),
+        [b'0', _, ..] => return Err(BadNumber::NotDecimal),
+        _ => {}
     }
-    if bytes[0] == b'0' && bytes.len() > 1 {
-        return Err(BadNumber::NotDecimal);
-    }
-    let mut n: u32 = 0;
+    let mut n: u16 = 0;
     for b in bytes {
-        if *b < b'0' || *b > b'9' {
+        if !b.is_ascii_digit() {
             return Err(BadNumber::NotDecimal);
         }
-        n = 10 * n + u32::from(*b - b'0');
-        if n > 65535 {
-            return Err(BadNumber::TooLarge);
-        }
+        let next = 10 * u32::from(n) + u32::from(*b - b'0');
+        n = u16::try_from(next).map_err(|_| BadNumber::TooLarge)?;
     }
-    Ok(n as u16)
+    Ok(n)
 }

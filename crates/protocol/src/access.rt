@@ -3,7 +3,7 @@ ghost use Rattle.std.specs.Prelude.{◌≡◌};
 ghost use Rattle.protocol.specs.Accesses.{block_of};
 
 /// A read or a write of one block.
-#[derive(Clone, Copy)]
+#[derive(Clone, Copy, PartialEq, Eq, Debug)]
 pub enum Access {
     Read(u16),
     Write(u16),
@@ -15,14 +15,13 @@ impl Access {
         ensures { result ≡ block_of self }
     {
         match self {
-            Access::Read(block) => block,
-            Access::Write(block) => block,
+            Access::Read(block) | Access::Write(block) => block,
         }
     }
 }
 
 /// A core is ready for a call, waits until it can fetch a block, or is due to resume its access.
-#[derive(Clone, Copy)]
+#[derive(Clone, Copy, PartialEq, Eq, Debug)]
 pub enum CoreState {
     Ready,
     Waiting(Access),

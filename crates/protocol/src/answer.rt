@@ -34,32 +34,34 @@ pub enum Word {
 }
 
 /// The word for what became of a call.
-pub fn word_of(outcome: Result<Answer, Refusal>) -> Word
-    ensures { result ≡ word_of outcome }
-{
-    match outcome {
-        Ok(Answer::Waits(_)) => Word::Waits,
-        Ok(Answer::Brought(_)) => Word::Brought,
-        Ok(Answer::Read(_)) => Word::Read,
-        Ok(Answer::Wrote(_)) => Word::Wrote,
-        Ok(Answer::Flushed(_)) => Word::Flushed,
-        Ok(Answer::Committed(_)) => Word::Committed,
-        Err(_) => Word::Refused,
+impl From<Result<Answer, Refusal>> for Word {
+    ghost from_gives = { λ o w. w ≡ word_of o };
+
+    fn from(outcome: Result<Answer, Refusal>) -> Word {
+        match outcome {
+            Ok(Answer::Waits(_)) => Word::Waits,
+            Ok(Answer::Brought(_)) => Word::Brought,
+            Ok(Answer::Read(_)) => Word::Read,
+            Ok(Answer::Wrote(_)) => Word::Wrote,
+            Ok(Answer::Flushed(_)) => Word::Flushed,
+            Ok(Answer::Committed(_)) => Word::Committed,
+            Err(_) => Word::Refused,
+        }
     }
 }
 
 /// The value that stands beside the word: a stamp, a block, 0 or 1, or the number of the refusal.
+// No `From`: neither a `Result` nor `u32` is a type of this crate.
 pub fn value_of(outcome: Result<Answer, Refusal>) -> u32
     ensures { result ≡ value_of outcome }
 {
     match outcome {
-        Ok(Answer::Waits(block)) => u32::from(block),
-        Ok(Answer::Brought(block)) => u32::from(block),
-        Ok(Answer::Read(stamp)) => stamp,
-        Ok(Answer::Wrote(stamp)) => stamp,
-        Ok(Answer::Flushed(block)) => u32::from(block),
+        Ok(Answer::Waits(block) | Answer::Brought(block) | Answer::Flushed(block)) => {
+            u32::from(block)
+        }
+        Ok(Answer::Read(stamp) | Answer::Wrote(stamp)) => stamp,
         Ok(Answer::Committed(stored)) => u32::from(stored),
-        Err(refusal) => u32::from(refusal.number()),
+        Err(refusal) => u32::from(u8::from(refusal)),
     }
 }
 

@@ -3,7 +3,7 @@ ghost use Rattle.std.specs.Prelude.{◌≡◌};
 ghost use Rattle.protocol.specs.Calls.{core_of, fits_in};
 
 /// A call names a core and, but for fetch and resume, a block.
-#[derive(Clone, Copy)]
+#[derive(Clone, Copy, PartialEq, Eq, Debug)]
 pub enum Call {
     Read(u16, u16),
     Write(u16, u16),
@@ -19,12 +19,12 @@ impl Call {
         ensures { result ≡ core_of self }
     {
         match self {
-            Call::Read(core, _) => core,
-            Call::Write(core, _) => core,
-            Call::Fetch(core) => core,
-            Call::Resume(core) => core,
-            Call::Flush(core, _) => core,
-            Call::Commit(core, _) => core,
+            Call::Read(core, _)
+            | Call::Write(core, _)
+            | Call::Fetch(core)
+            | Call::Resume(core)
+            | Call::Flush(core, _)
+            | Call::Commit(core, _) => core,
         }
     }
 
@@ -33,12 +33,11 @@ impl Call {
         ensures { result ≡ fits_in size self }
     {
         match self {
-            Call::Read(_, block) => u32::from(block) < size,
-            Call::Write(_, block) => u32::from(block) < size,
-            Call::Fetch(_) => true,
-            Call::Resume(_) => true,
-            Call::Flush(_, block) => u32::from(block) < size,
-            Call::Commit(_, block) => u32::from(block) < size,
+            Call::Read(_, block)
+            | Call::Write(_, block)
+            | Call::Flush(_, block)
+            | Call::Commit(_, block) => u32::from(block) < size,
+            Call::Fetch(_) | Call::Resume(_) => true,
         }
     }
 }

@@ -2,6 +2,7 @@
 ghost use Rattle.std.specs.Prelude.{◌≡◌};
 ghost use Rattle.protocol.specs.Refusals.{refusal_number};
 
+/// Why a study does not accept what it is given.
 #[derive(Clone, Copy, PartialEq, Eq, Debug)]
 pub enum Refusal {
     /// The row has more than eight cores.
@@ -24,12 +25,12 @@ pub enum Refusal {
     NotOwed,
 }
 
-impl Refusal {
-    /// The number by which a report names the refusal.
-    pub fn number(self) -> u8
-        ensures { result ≡ refusal_number self }
-    {
-        match self {
+/// The number by which a report names the refusal.
+impl From<Refusal> for u8 {
+    ghost from_gives = { λ r n. n ≡ refusal_number r };
+
+    fn from(refusal: Refusal) -> u8 {
+        match refusal {
             Refusal::TooManyCores => 1,
             Refusal::NoBlocks => 2,
             Refusal::WeightTooHigh => 3,

@@ -1,25 +1,27 @@
 //! What the movements of blocks cost.
-ghost use Rattle.std.specs.Prelude.{◌≤◌};
+ghost use Rattle.protocol.specs.Prices.{Affordable};
 
 pub mod pricing;
 
-/// What it costs to bring a block up from each level, and to move one to or from main memory.
-#[derive(Clone, Copy)]
+/// The weights of levels 1 to 4 and of main memory, as they are given.
+#[derive(Clone, Copy, PartialEq, Eq, Debug)]
+pub struct Prices {
+    pub w1: u16,
+    pub w2: u16,
+    pub w3: u16,
+    pub w4: u16,
+    pub wm: u16,
+}
+
+/// What it costs to bring a block up from each level, and to move one to or from main memory: none above 1,000.
+#[derive(Clone, Copy, PartialEq, Eq, Debug)]
 pub struct Weights {
-    w1: u16,
-    w2: u16,
-    w3: u16,
-    w4: u16,
-    wm: u16,
-    ghost bound1: { w1 ≤ 1000 },
-    ghost bound2: { w2 ≤ 1000 },
-    ghost bound3: { w3 ≤ 1000 },
-    ghost bound4: { w4 ≤ 1000 },
-    ghost boundm: { wm ≤ 1000 },
+    prices: Prices,
+    ghost affordable: { Affordable prices },
 }
 
 /// How a step moved a block.
-#[derive(Clone, Copy)]
+#[derive(Clone, Copy, PartialEq, Eq, Debug)]
 pub enum Movement {
     /// Not at all.
     Still,

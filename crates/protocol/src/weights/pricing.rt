@@ -4,10 +4,29 @@ ghost use Rattle.protocol.specs.Prices.{price, weighing, none};
 ghost use Rattle.protocol.specs.Weighing.{prices_of, weighed};
 
 use crate::refusal::Refusal;
-use crate::weights::{Movement, Weights};
+use crate::weights::{Movement, Prices, Weights};
 
 /// The largest weight.
 pub const MOST_WEIGHT: u16 = 1000;
+
+/// The weights, if none is above 1,000.
+impl TryFrom<Prices> for Weights {
+    type Error = Refusal;
+
+    ghost try_from_gives = { λ p r. weighed r ≡ weighing p };
+
+    fn try_from(prices: Prices) -> Result<Weights, Refusal> {
+        if prices.w1 > MOST_WEIGHT
+            || prices.w2 > MOST_WEIGHT
+            || prices.w3 > MOST_WEIGHT
+            || prices.w4 > MOST_WEIGHT
+            || prices.wm > MOST_WEIGHT
+        {
+            return Err(Refusal::WeightTooHigh);
+        }
+        Ok(Weights { prices })
+    }
+}
 
 impl Weights {
     /// Weights that are all 0.
@@ -15,27 +34,14 @@ impl Weights {
         ensures { prices_of result ≡ none }
     {
         Weights {
-            w1: 0,
-            w2: 0,
-            w3: 0,
-            w4: 0,
-            wm: 0,
+            prices: Prices {
+                w1: 0,
+                w2: 0,
+                w3: 0,
+                w4: 0,
+                wm: 0,
+            },
         }
-    }
-
-    /// The weights of levels 1 to 4 and of main memory, if none is above 1,000.
-    pub fn new(w1: u16, w2: u16, w3: u16, w4: u16, wm: u16) -> Result<Weights, Refusal>
-        ensures { weighed result ≡ weighing w1 w2 w3 w4 wm }
-    {
-        if w1 > MOST_WEIGHT
-            || w2 > MOST_WEIGHT
-            || w3 > MOST_WEIGHT
-            || w4 > MOST_WEIGHT
-            || wm > MOST_WEIGHT
-        {
-            return Err(Refusal::WeightTooHigh);
-        }
-        Ok(Weights { w1, w2, w3, w4, wm })
     }
 
     /// What a movement costs.
@@ -45,11 +51,11 @@ impl Weights {
     {
         match movement {
             Movement::Still => 0,
-            Movement::FromLevel(1) => self.w1,
-            Movement::FromLevel(2) => self.w2,
-            Movement::FromLevel(3) => self.w3,
-            Movement::FromLevel(_) => self.w4,
-            Movement::Memory => self.wm,
+            Movement::FromLevel(1) => self.prices.w1,
+            Movement::FromLevel(2) => self.prices.w2,
+            Movement::FromLevel(3) => self.prices.w3,
+            Movement::FromLevel(_) => self.prices.w4,
+            Movement::Memory => self.prices.wm,
         }
     }
 }
