@@ -12,14 +12,11 @@ use parts::mark::Mark;
 use tier::Tier;
 
 /// Puts a block, and gives out the one that leaves for it. A block that is held stays as it is.
-pub fn put_block<T: Tier>(tier: &mut T, block: u16, mark: Mark, stamp: u32) -> Option<Line>
-    ensures answer { result ≡ given (put_answer (T.Tier.meaning tier.old) block mark stamp) }
-    ensures next { T.Tier.meaning tier.new ≡ after (T.Tier.meaning tier.old) (put block mark stamp) }
+pub fn put_block<T: Tier>(tier: &mut T, line: Line) -> Option<Line>
+    ensures answer { result ≡ given (put_answer (T.Tier.meaning tier.old) line.block line.mark line.stamp) }
+    ensures next { T.Tier.meaning tier.new ≡ after (T.Tier.meaning tier.old) (put line.block line.mark line.stamp) }
 {
-    match tier.put(block, mark, stamp) {
-        Ok(out) => out,
-        Err(_) => None,
-    }
+    tier.put(line).unwrap_or(None)
 }
 
 // Takes a block that is held below level 1, and puts it again with its mark and stamp.
@@ -28,10 +25,8 @@ fn put_back<T: Tier>(tier: &mut T, block: u16, mark: u8, stamp: u32) -> Option<L
     ensures next { T.Tier.meaning tier.new ≡ put_back (T.Tier.meaning tier.old) block (mark_of mark) stamp }
 {
     let _ = tier.take(block);
-    match Mark::from_number(mark) {
-        Some(mark) => put_block(tier, block, mark, stamp),
-        None => None,
-    }
+    let mark = Mark::try_from(mark).ok()?;
+    put_block(tier, Line { block, mark, stamp })
 }
 
 /// Brings a block that is held so up to level 1, and gives out the one that leaves for it.
@@ -51,16 +46,8 @@ pub fn bring_up<T: Tier>(tier: &mut T, block: u16, held: (u8, u32, u8)) -> Optio
 pub fn modified_stamp(held: Option<(u8, u32, u8)>) -> Option<u32>
     ensures { result ≡ modified_stamp held }
 {
-    match held {
-        None => None,
-        Some((mark, stamp, _)) => {
-            if mark == Mark::Modified.number() {
-                Some(stamp)
-            } else {
-                None
-            }
-        }
-    }
+    let (mark, stamp, _) = held?;
+    (mark == u8::from(Mark::Modified)).then_some(stamp)
 }
 
 /// Drops a block, and tells its stamp if the copy was modified.
@@ -68,6 +55,5 @@ pub fn drop_block<T: Tier>(tier: &mut T, block: u16) -> Option<u32>
     ensures answer { result ≡ modified_stamp (look_of (T.Tier.meaning tier.old) block) }
     ensures next { T.Tier.meaning tier.new ≡ after (T.Tier.meaning tier.old) (take block) }
 {
-    let held = tier.take(block);
-    modified_stamp(held)
+    modified_stamp(tier.take(block))
 }

@@ -1,6 +1,5 @@
 -- A row of one core: core 0 is that core, and no other is there.
-use Rattle.std.proofs.Common.{◌≡◌, ℕ, zero, suc, Bool, true, false, cond, eqb, ltb, [], ◌∷◌, Some, None, Option, refl, ap, ◌∙◌}
-use lib.Dec.{eqb-suc-zero}
+use Rattle.std.proofs.Common.{◌≡◌, ◌≢◌, ℕ, zero, suc, Bool, true, false, cond, eqb, ltb, [], ◌∷◌, Some, None, Option, refl, ap}
 use Rattle.parts.specs.declared.mark.Mark.{Mark}
 use Rattle.parts.specs.Marks.{mark_of}
 use Rattle.moves.specs.Moves.{put_back_out}
@@ -8,21 +7,28 @@ use Rattle.row.specs.declared.operation.Operation.{Operation}
 use Rattle.row.specs.declared.operation.Operation.TheVariants.{BringUp, Put, Change}
 use Rattle.row.specs.Cores.{CoreMeaning, absent, core_at, place, operated_out}
 
-same : {A : Type 0} (b : Bool) (a : A) → a ≡ cond b a a
+same : {A : Type 0} (b : Bool) (a : A) → cond b a a ≡ a
 same true a = refl
 same false a = refl
 
--- what is told of core c
-pub one_at : {A : Type 0} (f : CoreMeaning → A) (x : CoreMeaning) (c : ℕ) → cond (eqb c 0) (f x) (f absent) ≡ f (core_at (x ∷ []) c)
+pub core_at-zero : (x : CoreMeaning) (c : ℕ) → c ≡ 0 → core_at (x ∷ []) c ≡ x
 unfolding core_at
-one_at f x zero = refl
-one_at f x (suc c) = ap (λ (b : Bool). cond b (f x) (f absent)) (eqb-suc-zero c) ∙ ap f (same (ltb (suc c) 8) absent)
+core_at-zero x c e = ap (core_at (x ∷ [])) e
 
--- core c with what g makes of it, where that is a part u in place of v
-pub one_on : {A : Type 0} (part : A → CoreMeaning) (g : CoreMeaning → CoreMeaning) (u v : A) (c : ℕ) → part u ≡ g (part v) → part (cond (eqb c 0) u v) ∷ [] ≡ place (part v ∷ []) c (g (core_at (part v ∷ []) c))
+pub core_at-other : (x : CoreMeaning) (c : ℕ) → c ≢ 0 → core_at (x ∷ []) c ≡ absent
+unfolding core_at
+core_at-other x zero ne = absurd (ne refl)
+core_at-other x (suc c) ne = same (ltb (suc c) 8) absent
+
+-- core c with what f makes of it in its place
+pub replaced-zero : (x : CoreMeaning) (c : ℕ) (f : CoreMeaning → CoreMeaning) → c ≡ 0 → place (x ∷ []) c (f (core_at (x ∷ []) c)) ≡ f x ∷ []
 unfolding core_at place
-one_on part g u v zero e = ap (λ (x : CoreMeaning). x ∷ []) e
-one_on part g u v (suc c) e = ap (λ (b : Bool). part (cond b u v) ∷ []) (eqb-suc-zero c) ∙ same (ltb (suc c) 8) (part v ∷ [])
+replaced-zero x c f e = ap (λ (i : ℕ). place (x ∷ []) i (f (core_at (x ∷ []) i))) e
+
+pub replaced-other : (x : CoreMeaning) (c : ℕ) (f : CoreMeaning → CoreMeaning) → c ≢ 0 → place (x ∷ []) c (f (core_at (x ∷ []) c)) ≡ x ∷ []
+unfolding place
+replaced-other x zero f ne = absurd (ne refl)
+replaced-other x (suc c) f ne = same (ltb (suc c) 8) (x ∷ [])
 
 -- a core that is not there gives out nothing
 no_put-back : (n : ℕ) (k : Option Mark) (s : ℕ) → None ≡ put_back_out absent.tier n k s
@@ -37,5 +43,5 @@ not_raised false n k s = no_put-back n k s
 pub nothing_out : (o : Operation) → None ≡ operated_out absent.tier o
 unfolding absent
 nothing_out (BringUp n h) = not_raised (eqb h.2 1) n (mark_of h.0) h.1
-nothing_out (Put n k s) = refl
-nothing_out (Change n k s) = refl
+nothing_out (Put g) = refl
+nothing_out (Change g) = refl

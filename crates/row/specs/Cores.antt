@@ -49,13 +49,13 @@ turned cs c s = place cs c (core (tier_at cs c) s)
 -- a tier after an operation, and the line that leaves it
 abbrev pub operated : TierMeaning → Operation → TierMeaning
 operated t (BringUp n h) = raised t n h
-operated t (Put n k s) = after t (put n k s)
-operated t (Change n k s) = after t (change n k s)
+operated t (Put g) = after t (put g.block g.mark g.stamp)
+operated t (Change g) = after t (change g.block g.mark g.stamp)
 
 abbrev pub operated_out : TierMeaning → Operation → Option Line
 operated_out t (BringUp n h) = raised_out t n h
-operated_out t (Put n k s) = given (put_answer t n k s)
-operated_out t (Change n k s) = None
+operated_out t (Put g) = given (put_answer t g.block g.mark g.stamp)
+operated_out t (Change g) = None
 
 -- core c after an operation of its tier
 abbrev pub done : List CoreMeaning → ℕ → Operation → List CoreMeaning

@@ -5,10 +5,12 @@ ghost use Rattle.std.specs.Prelude.{◌≡◌, List};
 ghost use Rattle.tier.specs.Meaning.{look_of};
 ghost use Rattle.row.specs.Cores.{CoreMeaning, count_of, tier_at, state_at, turned, operated_out, done, invalidated, met, awaited, renewed, AllLawful};
 
+use crate::message::Message;
 use crate::operation::Operation;
 use parts::line::Line;
 use protocol::access::CoreState;
 
+pub mod message;
 pub mod one_core;
 pub mod operation;
 
@@ -44,13 +46,13 @@ pub trait Row {
 
     /// A message that makes every core but the sender drop a block. The answer is the stamp of the last modified copy that it
     /// met. `first` is the number of this row's first core.
-    fn invalidate(&mut self, first: u16, sender: u16, block: u16) -> Option<u32>
-        ensures answer { result ≡ met first sender block (cores self.old) }
-        ensures next { cores self.new ≡ invalidated first sender block (cores self.old) };
+    fn invalidate(&mut self, first: u16, message: Message) -> Option<u32>
+        ensures answer { result ≡ met first message.sender message.block (cores self.old) }
+        ensures next { cores self.new ≡ invalidated first message.sender message.block (cores self.old) };
 
     /// Whether a core other than the sender waits for a block. `first` is the number of this row's first core.
-    fn awaited(&self, first: u16, sender: u16, block: u16) -> bool
-        ensures { result ≡ awaited first sender block (cores self.now) };
+    fn awaited(&self, first: u16, message: Message) -> bool
+        ensures { result ≡ awaited first message.sender message.block (cores self.now) };
 
     /// Clears every tier and makes every core ready.
     fn renew(&mut self)

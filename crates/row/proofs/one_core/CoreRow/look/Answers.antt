@@ -1,10 +1,13 @@
 -- What core 0 holds.
-use Rattle.std.proofs.Common.{◌∙◌}
+use Rattle.std.proofs.Common.{sym, ap, ◌∙◌}
 use Rattle.tier.specs.Meaning.{look_of}
-use Rattle.row.specs.Cores.{CoreMeaning, core, absent}
-use Rattle.row.proofs.Single.{one_at}
+use Rattle.row.specs.Cores.{CoreMeaning, absent}
+use Rattle.row.proofs.Single.{core_at-zero, core_at-other}
 use Rattle.row.proofs.one_core.CoreRow.look.Goals as goal
 
-pub returns : goal.returns
+pub returns-then-core-eq0 : goal.returns-then-core-eq0
+returns-then-core-eq0 g c = c.look.ensures ∙ sym (ap (λ (x : CoreMeaning). look_of x.tier c.args.block) (core_at-zero _ c.args.core c.if-core-eq0.true))
+
+pub returns-else-core-eq0 : goal.returns-else-core-eq0
 unfolding absent
-returns g c = c.look_at.ensures ∙ one_at (λ (x : CoreMeaning). look_of x.tier c.args.block) (core (g.T.Tier.meaning c.args.self.now.tier) c.args.self.now.state) c.args.core
+returns-else-core-eq0 g c = sym (ap (λ (x : CoreMeaning). look_of x.tier c.args.block) (core_at-other _ c.args.core c.if-core-eq0.false))

@@ -1,9 +1,12 @@
 -- The state of core 0.
-use Rattle.std.proofs.Common.{◌∙◌}
-use Rattle.row.specs.Cores.{CoreMeaning, core, absent}
-use Rattle.row.proofs.Single.{one_at}
+use Rattle.std.proofs.Common.{sym, ap}
+use Rattle.row.specs.Cores.{CoreMeaning, absent}
+use Rattle.row.proofs.Single.{core_at-zero, core_at-other}
 use Rattle.row.proofs.one_core.CoreRow.state.Goals as goal
 
-pub returns : goal.returns
+pub returns-then-core-eq0 : goal.returns-then-core-eq0
+returns-then-core-eq0 g c = sym (ap (λ (x : CoreMeaning). x.state) (core_at-zero _ c.args.core c.if-core-eq0.true))
+
+pub returns-else-core-eq0 : goal.returns-else-core-eq0
 unfolding absent
-returns g c = c.state_at.ensures ∙ one_at (λ (x : CoreMeaning). x.state) (core (g.T.Tier.meaning c.args.self.now.tier) c.args.self.now.state) c.args.core
+returns-else-core-eq0 g c = sym (ap (λ (x : CoreMeaning). x.state) (core_at-other _ c.args.core c.if-core-eq0.false))

@@ -1,11 +1,11 @@
 -- Core 0 in another state.
-use Rattle.std.proofs.Common.{[], ◌∷◌, refl, ◌∙◌}
+use Rattle.std.proofs.Common.{sym}
 use Rattle.row.specs.Cores.{CoreMeaning, core}
-use Rattle.row.proofs.Single.{one_on}
+use Rattle.row.proofs.Single.{replaced-zero, replaced-other}
 use Rattle.row.proofs.one_core.CoreRow.turn.Goals as goal
 
-pub returns : goal.returns
-returns g c =
-    let s = c.args.state in
-    (λ i. core (g.T.Tier.meaning (c.turn_at.ensures.tier i)) (c.turn_at.ensures.state i) ∷ [])
-    ∙ one_on (core (g.T.Tier.meaning c.args.self.now.tier)) (λ (x : CoreMeaning). core x.tier s) s c.args.self.now.state c.args.core refl
+pub returns-then-core-eq0 : goal.returns-then-core-eq0
+returns-then-core-eq0 g c = sym (replaced-zero _ c.args.core (λ (x : CoreMeaning). core x.tier c.args.state) c.if-core-eq0.true)
+
+pub returns-else-core-eq0 : goal.returns-else-core-eq0
+returns-else-core-eq0 g c = sym (replaced-other _ c.args.core (λ (x : CoreMeaning). core x.tier c.args.state) c.if-core-eq0.false)
