@@ -20,15 +20,14 @@ unfolding core_at
 core_at-other x zero ne = absurd (ne refl)
 core_at-other x (suc c) ne = same (ltb (suc c) 8) absent
 
--- core c with what f makes of it in its place
-pub replaced-zero : (x : CoreMeaning) (c : ℕ) (f : CoreMeaning → CoreMeaning) → c ≡ 0 → place (x ∷ []) c (f (core_at (x ∷ []) c)) ≡ f x ∷ []
-unfolding core_at place
-replaced-zero x c f e = ap (λ (i : ℕ). place (x ∷ []) i (f (core_at (x ∷ []) i))) e
-
-pub replaced-other : (x : CoreMeaning) (c : ℕ) (f : CoreMeaning → CoreMeaning) → c ≢ 0 → place (x ∷ []) c (f (core_at (x ∷ []) c)) ≡ x ∷ []
+pub place-zero : (x y : CoreMeaning) (c : ℕ) → c ≡ 0 → place (x ∷ []) c y ≡ y ∷ []
 unfolding place
-replaced-other x zero f ne = absurd (ne refl)
-replaced-other x (suc c) f ne = same (ltb (suc c) 8) (x ∷ [])
+place-zero x y c e = ap (λ (i : ℕ). place (x ∷ []) i y) e
+
+pub place-other : (x y : CoreMeaning) (c : ℕ) → c ≢ 0 → place (x ∷ []) c y ≡ x ∷ []
+unfolding place
+place-other x y zero ne = absurd (ne refl)
+place-other x y (suc c) ne = same (ltb (suc c) 8) (x ∷ [])
 
 -- a core that is not there gives out nothing
 no_put-back : (n : ℕ) (k : Option Mark) (s : ℕ) → None ≡ put_back_out absent.tier n k s
@@ -45,3 +44,6 @@ unfolding absent
 nothing_out (BringUp n h) = not_raised (eqb h.2 1) n (mark_of h.0) h.1
 nothing_out (Put g) = refl
 nothing_out (Change g) = refl
+
+-- what the calls of a row of one core come to
+pub ruleset of_one = (core_at-zero, core_at-other, place-zero, place-other, nothing_out)

@@ -65,6 +65,7 @@ impl<T: Tier> Row for Core<T> {
         1
     }
 
+    #[tactic(auto, using(crate::proofs::Single::of_one), unfolding(crate::specs::Cores::absent))]
     fn state(&self, core: u16) -> CoreState {
         if core == 0 {
             self.state
@@ -73,12 +74,14 @@ impl<T: Tier> Row for Core<T> {
         }
     }
 
+    #[tactic(auto, using(crate::proofs::Single::of_one), unfolding(crate::specs::Cores::absent))]
     fn turn(&mut self, core: u16, state: CoreState) {
         if core == 0 {
             self.state = state;
         }
     }
 
+    #[tactic(auto, using(crate::proofs::Single::of_one), unfolding(crate::specs::Cores::absent))]
     fn look(&self, core: u16, block: u16) -> Option<(u8, u32, u8)> {
         if core == 0 {
             self.tier.look(block)
@@ -87,6 +90,7 @@ impl<T: Tier> Row for Core<T> {
         }
     }
 
+    #[tactic(auto, using(crate::proofs::Single::of_one), unfolding(crate::specs::Cores::absent))]
     fn operate(&mut self, core: u16, operation: Operation) -> Option<Line> {
         if core == 0 {
             apply(&mut self.tier, operation)
