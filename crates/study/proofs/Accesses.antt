@@ -5,7 +5,7 @@ use native.Mathlib.Decide.{ℕ_discrete}
 use Rattle.std.proofs.lemmas.Bool.{eqb-true}
 use Rattle.parts.specs.declared.mark.Mark.TheVariants.{Modified}
 use Rattle.parts.specs.declared.line.Line.{Line}
-use Rattle.tier.specs.Meaning.{TierMeaning, change, Holding, look_of, bare, Lawful}
+use Rattle.tier.specs.Meaning.{TierMeaning, change, Holding, look_of, line, bare, Lawful}
 use Rattle.memory.specs.Meaning.{MemoryMeaning, size_of}
 use Rattle.protocol.specs.declared.access.Access.{Access}
 use Rattle.protocol.specs.declared.access.Access.TheVariants.{Read as ToRead, Write as ToWrite}
@@ -166,7 +166,7 @@ module _ (r : RunMeaning) (b : Book) (k : Call) (S : Sound r.cores r.memory b.nu
 
     writing-good : Good b k (writing r c n h)
     writing-good =
-        let replaced₂ = operated_on cs₂ c (ToChange n Modified w) (core t₁ Ready) (alone₂.here ∙ replaced₁.here)
+        let replaced₂ = operated_on cs₂ c (ToChange (line n Modified w)) (core t₁ Ready) (alone₂.here ∙ replaced₁.here)
         (rw alone₂.size sound₁.short) (rw alone₂.size lt₁) in
         record {
           inv = record {

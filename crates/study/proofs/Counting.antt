@@ -9,7 +9,8 @@ use Rattle.protocol.specs.declared.refusal.Refusal.{Refusal}
 use Rattle.protocol.specs.declared.weights.Movement.{Movement}
 use Rattle.protocol.specs.declared.weights.Movement.TheVariants.{Still, FromLevel, Memory}
 use Rattle.protocol.specs.Answers.{word_of}
-use Rattle.protocol.specs.Prices.{Prices, price}
+use Rattle.protocol.specs.declared.weights.Prices.{Prices}
+use Rattle.protocol.specs.Prices.{price}
 use Rattle.row.specs.Cores.{CoreMeaning}
 use Rattle.study.specs.Run.{RunMeaning, Outcome, writes_of, accesses_of}
 use Rattle.study.specs.Step.{accepted, refused, step}
@@ -17,7 +18,7 @@ use Rattle.study.specs.Opening.{opened}
 use Rattle.study.specs.Play.{played, history}
 use Rattle.study.specs.Words.{is_accepted, is_wrote, is_access, one_if, counted}
 use Rattle.study.specs.Report.{charged_for, Reported, RisesFrom}
-use Rattle.study.specs.Warrant.{Affordable}
+use Rattle.protocol.specs.Prices.{Affordable}
 use Rattle.study.proofs.Outcomes.{performed_by, of_step}
 
 -- no movement costs more than 1,000

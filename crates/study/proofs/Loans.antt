@@ -3,7 +3,7 @@ use Rattle.std.proofs.Common.{◌≡◌, ℕ, zero, suc, List, [], ◌∷◌, ma
 use Rattle.device.specs.Device.{after}
 use Rattle.memory.specs.Meaning.{MemoryMeaning, MemoryCall, store, Lent, size_of, lent_of, Lawful as LawfulMemory}
 use Rattle.protocol.specs.declared.call.Call.{Call}
-use Rattle.protocol.specs.Prices.{Prices}
+use Rattle.protocol.specs.declared.weights.Prices.{Prices}
 use Rattle.row.specs.Cores.{CoreMeaning}
 use Rattle.study.specs.Run.{RunMeaning, Outcome}
 use Rattle.study.specs.Step.{step}

@@ -5,7 +5,7 @@ use Rattle.std.proofs.lemmas.Bool.{ltb-true, eqb-true}
 use Rattle.device.specs.Device.{after}
 use Rattle.parts.specs.declared.mark.Mark.TheVariants.{Shared}
 use Rattle.parts.specs.declared.line.Line.{Line}
-use Rattle.tier.specs.Meaning.{TierMeaning, put, change, Holding, look_of, put_answer, bare, Lawful}
+use Rattle.tier.specs.Meaning.{TierMeaning, put, change, Holding, look_of, line, put_answer, bare, Lawful}
 use Rattle.tier.specs.Options.{never, none-some, some_same}
 use Rattle.tier.specs.Holdings.{bare-none}
 use Rattle.memory.specs.Meaning.{MemoryMeaning, store, size_of}
@@ -102,7 +102,7 @@ module _ (r : RunMeaning) (b : Book) (I : Inv r b) where
 
       fetching-good : Good b (Fetch c) (fetching r c a s)
       fetching-good =
-          let R = turned-done cs c (Put n Shared s) (Due a) S.short lt in
+          let R = turned-done cs c (Put (line n Shared s)) (Due a) S.short lt in
           record {
             inv = record {
               sound = change-sound cs m b.number S _ _ c _ R (lawful-after t (put n Shared s) ok) (left-lawful m S.memory out) (left-size m S.memory out) joins;
@@ -136,7 +136,7 @@ module _ (r : RunMeaning) (b : Book) (I : Inv r b) where
 
       cleaning-keeps : (x : Answer) → Inv (cleaning r c n s x).run b
       cleaning-keeps x =
-          let R = operated_on cs c (ToChange n Shared s) (core_at cs c) refl S.short lt in
+          let R = operated_on cs c (ToChange (line n Shared s)) (core_at cs c) refl S.short lt in
           record {
             sound = change-sound cs m b.number S _ _ c _ R (lawful-after t (change n Shared s) ok) K.lawful refl cleans;
             states = stands_replaced _ _ b.asked cs _ c _ R refl (λ d ne. I.states d) (stands-less _ _ t t' (state_at cs c) less (I.states c));

@@ -9,7 +9,7 @@ use Rattle.memory.specs.Meaning.{MemoryMeaning, store, size_of, Lawful as Lawful
 use Rattle.protocol.specs.declared.access.CoreState.TheVariants.{Ready}
 use Rattle.protocol.specs.declared.call.Call.{Call}
 use Rattle.protocol.specs.Answers.{word_of}
-use Rattle.protocol.specs.Prices.{Prices}
+use Rattle.protocol.specs.declared.weights.Prices.{Prices}
 use Rattle.row.specs.Cores.{CoreMeaning, absent, count_of, core_at, renewed, AllLawful}
 use Rattle.study.specs.Run.{RunMeaning}
 use Rattle.study.specs.Step.{valid, step}

@@ -5,13 +5,11 @@ use Rattle.memory.specs.Meaning.{MemoryMeaning, size_of}
 use Rattle.protocol.specs.declared.call.Call.{Call}
 use Rattle.protocol.specs.declared.refusal.Refusal.{Refusal}
 use Rattle.protocol.specs.declared.refusal.Refusal.TheVariants.{TooManyCores, NoBlocks}
-use Rattle.protocol.specs.declared.weights.Weights.{Weights}
-use Rattle.protocol.specs.Prices.{Prices}
-use Rattle.protocol.specs.Weighing.{prices_of}
+use Rattle.protocol.specs.declared.weights.Prices.{Prices}
 use Rattle.row.specs.Cores.{CoreMeaning, count_of}
 use Rattle.study.specs.Opening.{opened, opening}
 use Rattle.study.specs.Settling.{Ending, simulated}
-use Rattle.study.specs.Warrant.{Affordable, Warrant}
+use Rattle.study.specs.Warrant.{Warrant}
 use Rattle.study.proofs.Stacking.{piles}
 use Rattle.study.proofs.Counting.{reported}
 use Rattle.study.proofs.Theorem.{coherence}
@@ -23,9 +21,6 @@ warrant cs m w few tiers memory fair = record {
   honest = λ ks. (coherence cs m w few tiers memory ks).1;
   reported = reported cs m w fair;
 }
-
-pub affordable : (w : Weights) → Affordable (prices_of w)
-affordable w = record { w1 = w.bound1; w2 = w.bound2; w3 = w.bound3; w4 = w.bound4; wm = w.boundm }
 
 no_end : (x : Ending) (e : Refusal) → ◌≡◌ {A = Result Ending Refusal} (Ok x) (Err e) → ⊥
 no_end x e p = let z : ◌≡◌ {A = ℕ} 0 1 = cc in omega arith

@@ -8,7 +8,7 @@ use Rattle.protocol.specs.declared.refusal.Refusal.{Refusal}
 use Rattle.protocol.specs.Answers.{word_of, value_of}
 use Rattle.protocol.specs.Calls.{core_of}
 use Rattle.study.specs.declared.turn.Turn.{Turn}
-use Rattle.study.specs.Words.{is_accepted, is_read, is_wrote}
+use Rattle.study.specs.Words.{is_accepted, is_read, is_wrote, answered}
 
 -- a count of writes, a number for each block, and the block that each core last asked for
 pub record Book : Type 0 where
@@ -56,4 +56,4 @@ HonestTurn b k (Some a) rest = Honest (noted b k (word_of a)) (core_of k) a × r
 -- every call of a history was answered, and every read delivered shows the number that the book has for its block just then
 unfoldable pub HonestFrom : Book → List Turn → Type 0
 HonestFrom b [] = Unit {0}
-HonestFrom b (t ∷ ts) = HonestTurn b t.call t.answer (λ b'. HonestFrom b' ts)
+HonestFrom b (t ∷ ts) = HonestTurn b t.call (answered t.played) (λ b'. HonestFrom b' ts)

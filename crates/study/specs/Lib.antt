@@ -8,6 +8,6 @@ pub mod Coherence
 pub mod Report
 pub mod Figure
 pub mod Warrant
-pub mod Counted
 pub mod Settling
 pub mod Stages
+pub mod Effects

@@ -4,7 +4,7 @@ use Rattle.device.specs.Device.{after}
 use Rattle.memory.specs.Meaning.{MemoryMeaning, store, size_of}
 use Rattle.protocol.specs.declared.refusal.Refusal.{Refusal}
 use Rattle.protocol.specs.declared.refusal.Refusal.TheVariants.{TooManyCores, NoBlocks}
-use Rattle.protocol.specs.Prices.{Prices}
+use Rattle.protocol.specs.declared.weights.Prices.{Prices}
 use Rattle.row.specs.Cores.{CoreMeaning, count_of, renewed}
 use Rattle.study.specs.Run.{tally, RunMeaning, a_run}
 

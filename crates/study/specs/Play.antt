@@ -12,7 +12,7 @@ played r (k ∷ ks) = played (step r k).run ks
 
 -- a call with its answer, and the total after it
 abbrev pub turn_of : RunMeaning → Call → Turn
-turn_of r k = record { call = k; answer = Some (step r k).answer; total = (step r k).run.tally.total }
+turn_of r k = record { call = k; played = Some (record { answer = (step r k).answer; total = (step r k).run.tally.total }) }
 
 unfoldable pub history : RunMeaning → List Call → List Turn
 history r [] = []

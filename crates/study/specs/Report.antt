@@ -1,7 +1,8 @@
 -- What a reader of the report can check, over whole schedules.
-use Rattle.std.specs.Prelude.{◌≡◌, ℕ, ◌+◌, ◌*◌, ◌≤◌, false, List, [], ◌∷◌}
+use Rattle.std.specs.Prelude.{◌≡◌, ℕ, ◌+◌, ◌*◌, ◌≤◌, false, List, [], ◌∷◌, Some, None, Option}
 use Rattle.protocol.specs.declared.call.Call.{Call}
 use Rattle.protocol.specs.Answers.{word_of}
+use Rattle.study.specs.declared.turn.Played.{Played}
 use Rattle.study.specs.declared.turn.Turn.{Turn}
 use Rattle.study.specs.Run.{RunMeaning}
 use Rattle.study.specs.Step.{step}
@@ -14,9 +15,13 @@ charged_for r [] = 0
 charged_for r (k ∷ ks) = (step r k).charge + charged_for (step r k).run ks
 
 -- the totals noted in a history: each step adds to the total before it, at most 2,000, and a refused one adds nothing
+abbrev pub RisesBy : ℕ → Option Played → (ℕ → Type 0) → Type 0
+RisesBy before None rest = ⊥
+RisesBy before (Some p) rest = (before ≤ p.total) × (p.total ≤ before + 2000 * one_if is_accepted (Some p.answer)) × rest p.total
+
 unfoldable pub RisesFrom : ℕ → List Turn → Type 0
 RisesFrom before [] = Unit {0}
-RisesFrom before (t ∷ ts) = (before ≤ t.total) × (t.total ≤ before + 2000 * one_if is_accepted t.answer) × RisesFrom t.total ts
+RisesFrom before (t ∷ ts) = RisesBy before t.played (λ total. RisesFrom total ts)
 
 -- of a run r that has counted nothing yet
 pub record Reported (r : RunMeaning) (ks : List Call) : Type 0 where

@@ -1,12 +1,12 @@
 -- A run: its cores, its memory, its weights, and what it has counted.
-use Rattle.std.specs.Prelude.{ℕ, ◌+◌, List, Result}
+use Rattle.std.specs.Prelude.{ℕ, ◌+◌, ◌*◌, ◌≤◌, List, Result}
 use Rattle.memory.specs.Meaning.{MemoryMeaning}
 use Rattle.protocol.specs.declared.answer.Answer.{Answer}
 use Rattle.protocol.specs.declared.refusal.Refusal.{Refusal}
-use Rattle.protocol.specs.Prices.{Prices}
+use Rattle.protocol.specs.declared.weights.Prices.{Prices}
 use Rattle.row.specs.Cores.{CoreMeaning}
-use Rattle.study.specs.declared.counts.Performed.{Performed}
-use Rattle.study.specs.declared.counts.Performed.TheVariants.{Nothing, Read, Write}
+use Rattle.study.specs.declared.effect.Performed.{Performed}
+use Rattle.study.specs.declared.effect.Performed.TheVariants.{Nothing, Read, Write}
 
 -- accepted steps, writes performed, accesses performed, and the total of all charges
 pub record Tally : Type 0 where
@@ -17,6 +17,13 @@ pub record Tally : Type 0 where
 
 abbrev pub tally : ℕ → ℕ → ℕ → ℕ → Tally
 tally s w a t = record { steps = s; writes = w; accesses = a; total = t }
+
+-- counts that fit: at most a million steps, each at most one write, one access and a charge of 2,000
+pub record Bounded (k : Tally) : Type 0 where
+  pub steps : k.steps ≤ 1000000
+  pub writes : k.writes ≤ k.steps
+  pub accesses : k.accesses ≤ k.steps
+  pub total : k.total ≤ 2000 * k.steps
 
 abbrev pub writes_of : Performed → ℕ
 writes_of Nothing = 0

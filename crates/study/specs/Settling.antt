@@ -1,27 +1,30 @@
 -- What a study comes to.
-use Rattle.std.specs.Prelude.{ℕ, List, Ok, Err, Option, Result}
+use Rattle.std.specs.Prelude.{List, Ok, Err, Result}
 use Rattle.memory.specs.Meaning.{MemoryMeaning}
 use Rattle.protocol.specs.declared.call.Call.{Call}
 use Rattle.protocol.specs.declared.refusal.Refusal.{Refusal}
 use Rattle.row.specs.Cores.{CoreMeaning}
+use Rattle.study.specs.declared.quote.Quote.{Quote}
 use Rattle.study.specs.declared.turn.Turn.{Turn}
 use Rattle.study.specs.Figure.{figure_of}
-use Rattle.study.specs.Run.{RunMeaning}
+use Rattle.study.specs.Run.{Tally, RunMeaning}
 use Rattle.study.specs.Play.{played, history, calls_of}
+
+-- what a run has come to by its counts
+abbrev pub quote_of : Tally → Quote
+quote_of k = record { accesses = k.accesses; total = k.total; figure = figure_of k.total k.accesses }
 
 -- what is given back when a run is settled
 pub record Ending : Type 0 where
   pub cores : List CoreMeaning
   pub memory : MemoryMeaning
-  pub total : ℕ
-  pub accesses : ℕ
-  pub figure : Option ℕ
+  pub quote : Quote
 
-abbrev pub ending : List CoreMeaning → MemoryMeaning → ℕ → ℕ → Option ℕ → Ending
-ending cs m t a f = record { cores = cs; memory = m; total = t; accesses = a; figure = f }
+abbrev pub ending : List CoreMeaning → MemoryMeaning → Quote → Ending
+ending cs m q = record { cores = cs; memory = m; quote = q }
 
 abbrev pub end_of : RunMeaning → Ending
-end_of r = ending r.cores r.memory r.tally.total r.tally.accesses (figure_of r.tally.total r.tally.accesses)
+end_of r = ending r.cores r.memory (quote_of r.tally)
 
 -- an opened study is played and settled; a refused one is not
 abbrev pub simulated : Result RunMeaning Refusal → List Call → Result Ending Refusal

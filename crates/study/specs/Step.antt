@@ -5,7 +5,7 @@ use Rattle.parts.specs.declared.mark.Mark.{Mark}
 use Rattle.parts.specs.declared.mark.Mark.TheVariants.{Shared, Modified}
 use Rattle.parts.specs.declared.line.Line.{Line}
 use Rattle.parts.specs.Marks.{mark_number}
-use Rattle.tier.specs.Meaning.{Holding, look_of}
+use Rattle.tier.specs.Meaning.{Holding, look_of, line}
 use Rattle.memory.specs.declared.refusal.Refusal.{Refusal as MemoryRefusal}
 use Rattle.memory.specs.Meaning.{MemoryMeaning, store, stale, size_of, asked}
 use Rattle.protocol.specs.declared.access.Access.{Access}
@@ -22,12 +22,13 @@ use Rattle.protocol.specs.declared.weights.Movement.{Movement}
 use Rattle.protocol.specs.declared.weights.Movement.TheVariants.{Still, FromLevel, Memory}
 use Rattle.protocol.specs.Accesses.{block_of}
 use Rattle.protocol.specs.Calls.{core_of, fits_in}
-use Rattle.protocol.specs.Prices.{Prices, price}
+use Rattle.protocol.specs.declared.weights.Prices.{Prices}
+use Rattle.protocol.specs.Prices.{price}
 use Rattle.moves.specs.Moves.{modified_stamp}
 use Rattle.row.specs.declared.operation.Operation.TheVariants.{BringUp, Put, Change}
 use Rattle.row.specs.Cores.{CoreMeaning, count_of, tier_at, state_at, turned, operated_out, done, invalidated, met, awaited}
-use Rattle.study.specs.declared.counts.Performed.{Performed}
-use Rattle.study.specs.declared.counts.Performed.TheVariants.{Nothing, Read as ARead, Write as AWrite}
+use Rattle.study.specs.declared.effect.Performed.{Performed}
+use Rattle.study.specs.declared.effect.Performed.TheVariants.{Nothing, Read as ARead, Write as AWrite}
 use Rattle.study.specs.Run.{RunMeaning, a_run, tallied, Outcome, outcome}
 
 -- the stamp of a block that is valid in memory
@@ -107,7 +108,7 @@ is_modified h = h.0 == mark_number Modified
 abbrev pub writing : RunMeaning → ℕ → ℕ → Holding → Outcome
 writing r c n h =
     accepted r
-    (done (alone_cores (is_modified h) c n (brought_up r c n h)) c (Change n Modified (r.tally.writes + 1)))
+    (done (alone_cores (is_modified h) c n (brought_up r c n h)) c (Change (line n Modified (r.tally.writes + 1))))
     (alone_memory (is_modified h) c n (brought_up r c n h) (left (pushed_out r c n h) r.memory))
     AWrite (FromLevel h.2) (leaving (pushed_out r c n h)) (Wrote (r.tally.writes + 1))
 
@@ -122,12 +123,12 @@ access r c a = access_by r c a (look_of (tier_at r.cores c) (block_of a))
 
 -- the block that core c waits for comes from memory, which has it with the stamp s
 abbrev pub fetched_line : RunMeaning → ℕ → Access → ℕ → Option Line
-fetched_line r c a s = operated_out (tier_at r.cores c) (Put (block_of a) Shared s)
+fetched_line r c a s = operated_out (tier_at r.cores c) (Put (line (block_of a) Shared s))
 
 abbrev pub fetching : RunMeaning → ℕ → Access → ℕ → Outcome
 fetching r c a s =
     accepted r
-    (turned (done r.cores c (Put (block_of a) Shared s)) c (Due a))
+    (turned (done r.cores c (Put (line (block_of a) Shared s))) c (Due a))
     (left (fetched_line r c a s) r.memory)
     Nothing Memory (leaving (fetched_line r c a s)) (Brought (block_of a))
 
@@ -140,7 +141,7 @@ fetch r c a = fetch_by r c a (valid r.memory (block_of a))
 
 -- memory takes the copy that core c holds modified with the stamp s, and the copy is shared
 abbrev pub cleaning : RunMeaning → ℕ → ℕ → ℕ → Answer → Outcome
-cleaning r c n s x = accepted r (done r.cores c (Change n Shared s)) (after r.memory (store n s)) Nothing Memory Still x
+cleaning r c n s x = accepted r (done r.cores c (Change (line n Shared s))) (after r.memory (store n s)) Nothing Memory Still x
 
 abbrev pub cleaned : RunMeaning → ℕ → ℕ → ℕ → RunMeaning
 cleaned r c n s = (cleaning r c n s (Flushed n)).run

@@ -6,7 +6,8 @@ use Rattle.tier.specs.Pile.{pile}
 use Rattle.tier.specs.Stacked.{StaysStacked}
 use Rattle.memory.specs.Meaning.{MemoryMeaning, Lawful as LawfulMemory}
 use Rattle.protocol.specs.declared.call.Call.{Call}
-use Rattle.protocol.specs.Prices.{Prices}
+use Rattle.protocol.specs.declared.weights.Prices.{Prices}
+use Rattle.protocol.specs.Prices.{Affordable}
 use Rattle.row.specs.Cores.{CoreMeaning, count_of, AllLawful}
 use Rattle.study.specs.Opening.{opened}
 use Rattle.study.specs.Play.{played, history}
@@ -26,14 +27,6 @@ pub record Warranted (cs : List CoreMeaning) (m : MemoryMeaning) (w : Prices) : 
   pub coherent : (ks : List Call) → Coherent (played (opened cs m w) ks).cores (played (opened cs m w) ks).memory
   pub honest : (ks : List Call) → HonestFrom new_book (history (opened cs m w) ks)
   pub reported : (ks : List Call) → Reported (opened cs m w) ks
-
--- no weight is above 1,000
-pub record Affordable (w : Prices) : Type 0 where
-  pub w1 : w.w1 ≤ 1000
-  pub w2 : w.w2 ≤ 1000
-  pub w3 : w.w3 ≤ 1000
-  pub w4 : w.w4 ≤ 1000
-  pub wm : w.wm ≤ 1000
 
 -- for any lawful tiers, at most eight cores, and any lawful memory
 abbrev pub Warrant : Type 0

@@ -5,6 +5,7 @@ use Rattle.protocol.specs.declared.answer.Word.{Word}
 use Rattle.protocol.specs.declared.answer.Word.TheVariants.{Waits, Brought, Read, Wrote, Flushed, Committed, Refused}
 use Rattle.protocol.specs.declared.refusal.Refusal.{Refusal}
 use Rattle.protocol.specs.Answers.{word_of}
+use Rattle.study.specs.declared.turn.Played.{Played}
 use Rattle.study.specs.declared.turn.Turn.{Turn}
 
 abbrev pub is_accepted : Word → Bool
@@ -38,6 +39,11 @@ is_wrote Refused = false
 abbrev pub is_access : Word → Bool
 is_access w = cond (is_read w) true (is_wrote w)
 
+-- the answer of a turn that was played
+abbrev pub answered : Option Played → Option (Result Answer Refusal)
+answered None = None
+answered (Some p) = Some p.answer
+
 -- how many answers of a history have such a word
 abbrev pub one_if : (Word → Bool) → Option (Result Answer Refusal) → ℕ
 one_if p None = 0
@@ -45,4 +51,4 @@ one_if p (Some a) = cond (p (word_of a)) 1 0
 
 unfoldable pub counted : (Word → Bool) → List Turn → ℕ
 counted p [] = 0
-counted p (t ∷ ts) = one_if p t.answer + counted p ts
+counted p (t ∷ ts) = one_if p (answered t.played) + counted p ts

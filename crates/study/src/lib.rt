@@ -2,6 +2,8 @@
 #![tactic(auto)]
 
 pub mod counts;
+pub mod effect;
+pub mod quote;
 pub mod stages;
 mod transfers;
 pub mod turn;

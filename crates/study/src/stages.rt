@@ -1,5 +1,6 @@
 //! A study is first a draft, then a run, then settled.
 use crate::counts::Counts;
+use crate::quote::Quote;
 use protocol::refusal::Refusal;
 use protocol::weights::Weights;
 
@@ -36,8 +37,5 @@ pub struct Run<R, M> {
 pub struct Settled<R, M> {
     pub row: R,
     pub memory: M,
-    pub total: u64,
-    pub accesses: u32,
-    /// The mean penalty per access in hundredths, rounded down; none without accesses.
-    pub figure: Option<u64>,
+    pub quote: Quote,
 }

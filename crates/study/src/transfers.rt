@@ -9,6 +9,7 @@ use parts::line::Line;
 use parts::mark::Mark;
 use protocol::weights::Movement;
 use row::Row;
+use row::message::Message;
 
 /// Stores a stamp in main memory. Every store of a study is made here.
 pub(crate) fn store<M: Memory>(memory: &mut M, block: u16, stamp: u32)
@@ -21,10 +22,7 @@ pub(crate) fn store<M: Memory>(memory: &mut M, block: u16, stamp: u32)
 pub(crate) fn valid<M: Memory>(memory: &M, block: u16) -> Option<u32>
     ensures { result ≡ valid (M.Memory.meaning memory.now) block }
 {
-    match memory.ask(block) {
-        Ok(stamp) => stamp,
-        Err(_) => None,
-    }
+    memory.ask(block).unwrap_or(None)
 }
 
 /// A line leaves the caches: modified, it is stored in main memory; shared, it is dropped.
@@ -33,14 +31,17 @@ pub(crate) fn leave<M: Memory>(memory: &mut M, out: Option<Line>) -> Movement
     ensures next { M.Memory.meaning memory.new ≡ left out (M.Memory.meaning memory.old) }
 {
     match out {
-        None => Movement::Still,
-        Some(line) => match line.mark {
-            Mark::Shared => Movement::Still,
-            Mark::Modified => {
-                store(memory, line.block, line.stamp);
-                Movement::Memory
-            }
-        },
+        Some(
+            Line {
+                block,
+                mark: Mark::Modified,
+                stamp,
+            },
+        ) => {
+            store(memory, block, stamp);
+            Movement::Memory
+        }
+        _ => Movement::Still,
     }
 }
 
@@ -48,9 +49,8 @@ pub(crate) fn leave<M: Memory>(memory: &mut M, out: Option<Line>) -> Movement
 fn recall<M: Memory>(memory: &mut M, block: u16, met: Option<u32>)
     ensures { M.Memory.meaning memory.new ≡ recalled block met (M.Memory.meaning memory.old) }
 {
-    match met {
-        None => {}
-        Some(stamp) => store(memory, block, stamp),
+    if let Some(stamp) = met {
+        store(memory, block, stamp);
     }
 }
 
@@ -68,7 +68,13 @@ pub(crate) fn claim<R: Row, M: Memory>(
     if modified {
         return;
     }
-    let met = row.invalidate(0, core, block);
+    let met = row.invalidate(
+        0,
+        Message {
+            sender: core,
+            block,
+        },
+    );
     recall(memory, block, met);
     let _ = memory.stale(block);
 }

@@ -3,9 +3,8 @@ ghost use Rattle.std.specs.Prelude.{◌≡◌, is_ok, IfErr};
 ghost use Rattle.memory.specs.Meaning.{size_of};
 ghost use Rattle.protocol.specs.Prices.{none, weighing};
 ghost use Rattle.protocol.specs.Weighing.{prices_of};
-ghost use Rattle.study.specs.Counted.{tally_of};
-ghost use Rattle.study.specs.Figure.{figure_of};
 ghost use Rattle.study.specs.Opening.{zeroed, opening};
+ghost use Rattle.study.specs.Settling.{quote_of};
 ghost use Rattle.study.specs.Stages.{run_of, opened_as, weighed_as, answer_of};
 
 use crate::counts::Counts;
@@ -13,7 +12,7 @@ use crate::stages::{Draft, RefusedDraft, Run, Settled};
 use crate::transfers::store;
 use memory::Memory;
 use protocol::refusal::Refusal;
-use protocol::weights::Weights;
+use protocol::weights::{Prices, Weights};
 use row::{MOST_CORES, Row};
 
 // Stores stamp 0 in every block, in rising order.
@@ -40,20 +39,15 @@ impl<R: Row, M: Memory> Draft<R, M> {
         }
     }
 
-    /// Sets the weights of levels 1 to 4 and of main memory, or none of them if one is above 1,000.
-    pub fn weigh(&mut self, w1: u16, w2: u16, w3: u16, w4: u16, wm: u16) -> Result<(), Refusal>
+    /// Sets the weights, or none of them if one is above 1,000.
+    pub fn weigh(&mut self, prices: Prices) -> Result<(), Refusal>
         ensures row { self.new.row ≡ self.old.row }
         ensures memory { self.new.memory ≡ self.old.memory }
-        ensures weights { prices_of self.new.weights ≡ weighed_as (weighing w1 w2 w3 w4 wm) (prices_of self.old.weights) }
-        ensures answer { result ≡ answer_of (weighing w1 w2 w3 w4 wm) }
+        ensures weights { prices_of self.new.weights ≡ weighed_as (weighing prices) (prices_of self.old.weights) }
+        ensures answer { result ≡ answer_of (weighing prices) }
     {
-        match Weights::new(w1, w2, w3, w4, wm) {
-            Ok(weights) => {
-                self.weights = weights;
-                Ok(())
-            }
-            Err(refusal) => Err(refusal),
-        }
+        self.weights = Weights::try_from(prices)?;
+        Ok(())
     }
 
     /// Opens the study: clears every tier, makes every core ready and stores stamp 0 in every block. A draft that is refused
@@ -75,13 +69,11 @@ impl<R: Row, M: Memory> Draft<R, M> {
             });
         }
         let Draft {
-            row,
-            memory,
+            mut row,
+            mut memory,
             weights,
         } = self;
-        let mut row = row;
         row.renew();
-        let mut memory = memory;
         zero(&mut memory);
         Ok(Run {
             row,
@@ -109,9 +101,7 @@ impl<R: Row, M: Memory> Run<R, M> {
     pub fn settle(self) -> Settled<R, M>
         ensures row { result.row ≡ self.row }
         ensures memory { result.memory ≡ self.memory }
-        ensures total { result.total ≡ (tally_of self.counts).total }
-        ensures accesses { result.accesses ≡ (tally_of self.counts).accesses }
-        ensures figure { result.figure ≡ figure_of (tally_of self.counts).total (tally_of self.counts).accesses }
+        ensures quote { result.quote ≡ quote_of self.counts }
     {
         let Run {
             row,
@@ -122,9 +112,7 @@ impl<R: Row, M: Memory> Run<R, M> {
         Settled {
             row,
             memory,
-            total: counts.total(),
-            accesses: counts.accesses(),
-            figure: counts.figure(),
+            quote: counts.quote(),
         }
     }
 }

@@ -9,7 +9,7 @@ ghost use Rattle.study.specs.Stages.{run_of, ended_as};
 ghost use Rattle.study.specs.Warrant.{Warranted};
 
 use crate::stages::{Draft, RefusedDraft, Run, Settled};
-use crate::turn::Turn;
+use crate::turn::{Played, Turn};
 use memory::Memory;
 use protocol::call::Call;
 use row::Row;
@@ -20,12 +20,11 @@ impl<R: Row, M: Memory> Run<R, M> {
         ensures run { run_of R.cores M.meaning self.new ≡ (step (run_of R.cores M.meaning self.old) call).run }
         ensures turn { result ≡ turn_of (run_of R.cores M.meaning self.old) call }
     {
-        let answer = Some(self.step(call));
+        let answer = self.step(call);
         let total = self.counts.total();
         Turn {
             call,
-            answer,
-            total,
+            played: Some(Played { answer, total }),
         }
     }
 
@@ -34,8 +33,8 @@ impl<R: Row, M: Memory> Run<R, M> {
         ensures run { run_of R.cores M.meaning self.new ≡ played (run_of R.cores M.meaning self.old) (calls_of schedule.old) }
         ensures turns { schedule.new ≡ history (run_of R.cores M.meaning self.old) (calls_of schedule.old) }
     {
-        for i in 0..schedule.len() {
-            schedule[i] = self.take_turn(schedule[i].call);
+        for turn in schedule {
+            *turn = self.take_turn(turn.call);
         }
     }
 }

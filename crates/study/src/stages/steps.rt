@@ -1,86 +1,63 @@
 //! The steps of a run.
 ghost use Rattle.std.specs.Prelude.{◌≡◌, ◌<◌, Ok};
 ghost use Rattle.protocol.specs.Weighing.{prices_of};
-ghost use Rattle.row.specs.Cores.{state_at};
 ghost use Rattle.protocol.specs.Calls.{core_of};
+ghost use Rattle.row.specs.Cores.{state_at};
 ghost use Rattle.study.specs.Run.{tallied};
-ghost use Rattle.study.specs.Step.{charged, waiting, reading, writing, access, fetching, fetch, cleaned, flush, commit, act, checked, step};
-ghost use Rattle.study.specs.Counted.{tally_of};
+ghost use Rattle.study.specs.Step.{charged, waiting, reading, writing, access, fetching, fetch, cleaning, flush, commit, act, checked, step};
 ghost use Rattle.study.specs.Stages.{run_of};
+ghost use Rattle.study.specs.Effects.{Does};
 
-use crate::counts::tallies::MOST_STEPS;
-use crate::counts::{Counts, Performed};
+use crate::counts::MOST_STEPS;
+use crate::effect::{Effect, Performed};
 use crate::stages::Run;
 use crate::transfers::{claim, leave, store, valid};
 use memory::Memory;
 use moves::modified_stamp;
+use parts::line::Line;
 use parts::mark::Mark;
 use protocol::access::{Access, CoreState};
 use protocol::answer::Answer;
 use protocol::call::Call;
 use protocol::refusal::Refusal;
-use protocol::weights::{Movement, Weights};
+use protocol::weights::Movement;
 use row::Row;
+use row::message::Message;
 use row::operation::Operation;
 
-// Counts an accepted step and charges its two movements. Every charge of a run is made here.
-fn charge(
-    counts: &mut Counts,
-    weights: Weights,
-    performed: Performed,
-    moved: Movement,
-    left: Movement,
-)
-    requires { (tally_of counts.old).steps < 1000000 }
-    ensures { tally_of counts.new ≡ tallied (tally_of counts.old) performed (charged (prices_of weights) moved left) }
-{
-    let price = u32::from(weights.price(moved)) + u32::from(weights.price(left));
-    counts.accept(performed, price);
-}
-
 impl<R: Row, M: Memory> Run<R, M> {
-    // A core cannot make an access yet.
-    fn wait(&mut self, core: u16, access: Access) -> Answer
-        requires { (tally_of self.old.counts).steps < 1000000 }
-        ensures run { run_of R.cores M.meaning self.new ≡ (waiting (run_of R.cores M.meaning self.old) core access).run }
-        ensures answer { Ok result ≡ (waiting (run_of R.cores M.meaning self.old) core access).answer }
+    // The core cannot make the access yet.
+    fn wait(&mut self, core: u16, wanted: Access) -> Effect
+        ensures { Does R.cores M.meaning self.old self.new (Ok result) (waiting (run_of R.cores M.meaning self.old) core wanted) }
     {
-        self.row.turn(core, CoreState::Waiting(access));
-        charge(
-            &mut self.counts,
-            self.weights,
-            Performed::Nothing,
-            Movement::Still,
-            Movement::Still,
-        );
-        Answer::Waits(access.block())
+        self.row.turn(core, CoreState::Waiting(wanted));
+        Effect {
+            performed: Performed::Nothing,
+            moved: Movement::Still,
+            left: Movement::Still,
+            answer: Answer::Waits(wanted.block()),
+        }
     }
 
     // A core reads a block that it holds so.
-    fn read_held(&mut self, core: u16, block: u16, held: (u8, u32, u8)) -> Answer
-        requires { (tally_of self.old.counts).steps < 1000000 }
-        ensures run { run_of R.cores M.meaning self.new ≡ (reading (run_of R.cores M.meaning self.old) core block held).run }
-        ensures answer { Ok result ≡ (reading (run_of R.cores M.meaning self.old) core block held).answer }
+    fn read_held(&mut self, core: u16, block: u16, held: (u8, u32, u8)) -> Effect
+        ensures { Does R.cores M.meaning self.old self.new (Ok result) (reading (run_of R.cores M.meaning self.old) core block held) }
     {
         let (_, stamp, level) = held;
         let out = self.row.operate(core, Operation::BringUp(block, held));
         self.row.turn(core, CoreState::Ready);
         let left = leave(&mut self.memory, out);
-        charge(
-            &mut self.counts,
-            self.weights,
-            Performed::Read,
-            Movement::FromLevel(level),
+        Effect {
+            performed: Performed::Read,
+            moved: Movement::FromLevel(level),
             left,
-        );
-        Answer::Read(stamp)
+            answer: Answer::Read(stamp),
+        }
     }
 
     // A core writes a block that it holds so.
-    fn write_held(&mut self, core: u16, block: u16, held: (u8, u32, u8)) -> Answer
-        requires { (tally_of self.old.counts).steps < 1000000 }
-        ensures run { run_of R.cores M.meaning self.new ≡ (writing (run_of R.cores M.meaning self.old) core block held).run }
-        ensures answer { Ok result ≡ (writing (run_of R.cores M.meaning self.old) core block held).answer }
+    fn write_held(&mut self, core: u16, block: u16, held: (u8, u32, u8)) -> Effect
+        ensures { Does R.cores M.meaning self.old self.new (Ok result) (writing (run_of R.cores M.meaning self.old) core block held) }
     {
         let (mark, _, level) = held;
         let out = self.row.operate(core, Operation::BringUp(block, held));
@@ -91,27 +68,25 @@ impl<R: Row, M: Memory> Run<R, M> {
             &mut self.memory,
             core,
             block,
-            mark == Mark::Modified.number(),
+            mark == u8::from(Mark::Modified),
         );
-        let stamp = self.counts.writes() + 1;
-        let _ = self
-            .row
-            .operate(core, Operation::Change(block, Mark::Modified, stamp));
-        charge(
-            &mut self.counts,
-            self.weights,
-            Performed::Write,
-            Movement::FromLevel(level),
+        let line = Line {
+            block,
+            mark: Mark::Modified,
+            stamp: self.counts.writes() + 1,
+        };
+        let _ = self.row.operate(core, Operation::Change(line));
+        Effect {
+            performed: Performed::Write,
+            moved: Movement::FromLevel(level),
             left,
-        );
-        Answer::Wrote(stamp)
+            answer: Answer::Wrote(line.stamp),
+        }
     }
 
     // An access as a ready core makes it.
-    fn perform(&mut self, core: u16, wanted: Access) -> Answer
-        requires { (tally_of self.old.counts).steps < 1000000 }
-        ensures run { run_of R.cores M.meaning self.new ≡ (access (run_of R.cores M.meaning self.old) core wanted).run }
-        ensures answer { Ok result ≡ (access (run_of R.cores M.meaning self.old) core wanted).answer }
+    fn perform(&mut self, core: u16, wanted: Access) -> Effect
+        ensures { Does R.cores M.meaning self.old self.new (Ok result) (access (run_of R.cores M.meaning self.old) core wanted) }
     {
         match (wanted, self.row.look(core, wanted.block())) {
             (Access::Read(block), Some(held)) => self.read_held(core, block, held),
@@ -121,31 +96,27 @@ impl<R: Row, M: Memory> Run<R, M> {
     }
 
     // The block that a core waits for, valid in memory with this stamp, comes to it.
-    fn bring(&mut self, core: u16, access: Access, stamp: u32) -> Answer
-        requires { (tally_of self.old.counts).steps < 1000000 }
-        ensures run { run_of R.cores M.meaning self.new ≡ (fetching (run_of R.cores M.meaning self.old) core access stamp).run }
-        ensures answer { Ok result ≡ (fetching (run_of R.cores M.meaning self.old) core access stamp).answer }
+    fn bring(&mut self, core: u16, access: Access, stamp: u32) -> Effect
+        ensures { Does R.cores M.meaning self.old self.new (Ok result) (fetching (run_of R.cores M.meaning self.old) core access stamp) }
     {
-        let block = access.block();
-        let out = self
-            .row
-            .operate(core, Operation::Put(block, Mark::Shared, stamp));
+        let line = Line {
+            block: access.block(),
+            mark: Mark::Shared,
+            stamp,
+        };
+        let out = self.row.operate(core, Operation::Put(line));
         self.row.turn(core, CoreState::Due(access));
         let left = leave(&mut self.memory, out);
-        charge(
-            &mut self.counts,
-            self.weights,
-            Performed::Nothing,
-            Movement::Memory,
+        Effect {
+            performed: Performed::Nothing,
+            moved: Movement::Memory,
             left,
-        );
-        Answer::Brought(block)
+            answer: Answer::Brought(line.block),
+        }
     }
 
-    fn fetch(&mut self, core: u16, access: Access) -> Result<Answer, Refusal>
-        requires { (tally_of self.old.counts).steps < 1000000 }
-        ensures run { run_of R.cores M.meaning self.new ≡ (fetch (run_of R.cores M.meaning self.old) core access).run }
-        ensures answer { result ≡ (fetch (run_of R.cores M.meaning self.old) core access).answer }
+    fn fetch(&mut self, core: u16, access: Access) -> Result<Effect, Refusal>
+        ensures { Does R.cores M.meaning self.old self.new result (fetch (run_of R.cores M.meaning self.old) core access) }
     {
         match valid(&self.memory, access.block()) {
             Some(stamp) => Ok(self.bring(core, access, stamp)),
@@ -154,69 +125,59 @@ impl<R: Row, M: Memory> Run<R, M> {
     }
 
     // Main memory takes a copy that a core holds modified with this stamp, and the copy is shared.
-    fn clean(&mut self, core: u16, block: u16, stamp: u32)
-        requires { (tally_of self.old.counts).steps < 1000000 }
-        ensures { run_of R.cores M.meaning self.new ≡ cleaned (run_of R.cores M.meaning self.old) core block stamp }
+    fn clean(&mut self, core: u16, block: u16, stamp: u32, answer: Answer) -> Effect
+        ensures { Does R.cores M.meaning self.old self.new (Ok result) (cleaning (run_of R.cores M.meaning self.old) core block stamp answer) }
     {
-        let _ = self
-            .row
-            .operate(core, Operation::Change(block, Mark::Shared, stamp));
+        let line = Line {
+            block,
+            mark: Mark::Shared,
+            stamp,
+        };
+        let _ = self.row.operate(core, Operation::Change(line));
         store(&mut self.memory, block, stamp);
-        charge(
-            &mut self.counts,
-            self.weights,
-            Performed::Nothing,
-            Movement::Memory,
-            Movement::Still,
-        );
-    }
-
-    fn flush(&mut self, core: u16, block: u16) -> Result<Answer, Refusal>
-        requires { (tally_of self.old.counts).steps < 1000000 }
-        ensures run { run_of R.cores M.meaning self.new ≡ (flush (run_of R.cores M.meaning self.old) core block).run }
-        ensures answer { result ≡ (flush (run_of R.cores M.meaning self.old) core block).answer }
-    {
-        match modified_stamp(self.row.look(core, block)) {
-            Some(stamp) => {
-                if self.row.awaited(0, core, block) {
-                    self.clean(core, block, stamp);
-                    Ok(Answer::Flushed(block))
-                } else {
-                    Err(Refusal::NotOwed)
-                }
-            }
-            None => Err(Refusal::NotOwed),
+        Effect {
+            performed: Performed::Nothing,
+            moved: Movement::Memory,
+            left: Movement::Still,
+            answer,
         }
     }
 
-    fn commit(&mut self, core: u16, block: u16) -> Answer
-        requires { (tally_of self.old.counts).steps < 1000000 }
-        ensures run { run_of R.cores M.meaning self.new ≡ (commit (run_of R.cores M.meaning self.old) core block).run }
-        ensures answer { Ok result ≡ (commit (run_of R.cores M.meaning self.old) core block).answer }
+    fn flush(&mut self, core: u16, block: u16) -> Result<Effect, Refusal>
+        ensures { Does R.cores M.meaning self.old self.new result (flush (run_of R.cores M.meaning self.old) core block) }
+    {
+        let message = Message {
+            sender: core,
+            block,
+        };
+        match modified_stamp(self.row.look(core, block)) {
+            Some(stamp) if self.row.awaited(0, message) => Ok(self.clean(
+                core,
+                block,
+                stamp,
+                Answer::Flushed(block),
+            )),
+            _ => Err(Refusal::NotOwed),
+        }
+    }
+
+    fn commit(&mut self, core: u16, block: u16) -> Effect
+        ensures { Does R.cores M.meaning self.old self.new (Ok result) (commit (run_of R.cores M.meaning self.old) core block) }
     {
         match modified_stamp(self.row.look(core, block)) {
-            Some(stamp) => {
-                self.clean(core, block, stamp);
-                Answer::Committed(true)
-            }
-            None => {
-                charge(
-                    &mut self.counts,
-                    self.weights,
-                    Performed::Nothing,
-                    Movement::Still,
-                    Movement::Still,
-                );
-                Answer::Committed(false)
-            }
+            Some(stamp) => self.clean(core, block, stamp, Answer::Committed(true)),
+            None => Effect {
+                performed: Performed::Nothing,
+                moved: Movement::Still,
+                left: Movement::Still,
+                answer: Answer::Committed(false),
+            },
         }
     }
 
     // What a call does depends on the state of its core.
-    fn act(&mut self, call: Call) -> Result<Answer, Refusal>
-        requires { (tally_of self.old.counts).steps < 1000000 }
-        ensures run { run_of R.cores M.meaning self.new ≡ (act (run_of R.cores M.meaning self.old) call (state_at (R.cores self.old.row) (core_of call))).run }
-        ensures answer { result ≡ (act (run_of R.cores M.meaning self.old) call (state_at (R.cores self.old.row) (core_of call))).answer }
+    fn act(&mut self, call: Call) -> Result<Effect, Refusal>
+        ensures { Does R.cores M.meaning self.old self.new result (act (run_of R.cores M.meaning self.old) call (state_at (R.cores self.old.row) (core_of call))) }
     {
         match (call, self.row.state(call.core())) {
             (Call::Read(core, block), CoreState::Ready) => Ok(self.perform(
@@ -235,6 +196,17 @@ impl<R: Row, M: Memory> Run<R, M> {
         }
     }
 
+    // Counts an accepted step and charges its two movements. Every charge of a run is made here.
+    fn charge(&mut self, effect: Effect)
+        requires { self.old.counts.steps < 1000000 }
+        ensures { self.new ≡ record self.old { counts = tallied self.old.counts effect.performed (charged (prices_of self.old.weights) effect.moved effect.left) } }
+    {
+        let moved = self.weights.price(effect.moved);
+        let left = self.weights.price(effect.left);
+        self.counts
+            .accept(effect.performed, u32::from(moved) + u32::from(left));
+    }
+
     // The questions that are put to every call, and then the call.
     fn check(&mut self, call: Call) -> Result<Answer, Refusal>
         ensures run { run_of R.cores M.meaning self.new ≡ (checked (run_of R.cores M.meaning self.old) call).run }
@@ -249,10 +221,13 @@ impl<R: Row, M: Memory> Run<R, M> {
         if !call.fits_in(self.memory.size()) {
             return Err(Refusal::NoSuchBlock);
         }
-        self.act(call)
+        let effect = self.act(call)?;
+        self.charge(effect);
+        Ok(effect.answer)
     }
 
     /// One step. A refused one alters nothing.
+    #[tactic(auto, unfolding(crate::specs::Step::step))]
     pub fn step(&mut self, call: Call) -> Result<Answer, Refusal>
         ensures run { run_of R.cores M.meaning self.new ≡ (step (run_of R.cores M.meaning self.old) call).run }
         ensures answer { result ≡ (step (run_of R.cores M.meaning self.old) call).answer }

@@ -10,14 +10,14 @@ use Rattle.study.specs.Opening.{opening}
 use Rattle.study.specs.Settling.{simulated}
 use Rattle.study.specs.Stages.{ended_as}
 use Rattle.study.specs.Warrant.{Warranted}
-use Rattle.study.proofs.Warranty.{warrant, affordable, ended_few}
+use Rattle.study.proofs.Warranty.{warrant, ended_few}
 use Rattle.study.proofs.stages.Draft.simulate.Goals as goal
 
 -- a study that came to an end is warranted
 warranted : {R M : Type 0} (cores : R → List CoreMeaning) (meaning : M → MemoryMeaning) (cs : List CoreMeaning) (m : MemoryMeaning) (w : Weights) (ks : List Call)
     → AllLawful cs → LawfulMemory m → (r : Result (Settled R M) (RefusedDraft R M)) → ended_as cores meaning r ≡ simulated (opening cs m (prices_of w)) ks
     → IfOk r (λ _. Warranted cs m (prices_of w))
-warranted cores meaning cs m w ks tiers memory (Ok s) p = warrant cs m (prices_of w) (ended_few cs m (prices_of w) ks _ p) tiers memory (affordable w)
+warranted cores meaning cs m w ks tiers memory (Ok s) p = warrant cs m (prices_of w) (ended_few cs m (prices_of w) ks _ p) tiers memory w.affordable
 warranted cores meaning cs m w ks tiers memory (Err e) p = tt
 
 pub returns : goal.returns
