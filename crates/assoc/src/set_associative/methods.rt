@@ -1,17 +1,14 @@
 //! What a set-associative tier does.
-ghost use Rattle.std.specs.Prelude.{◌≡◌, ◌<◌, ◌≤◌, true, map, IfOk, vec_len};
-ghost use Rattle.device.specs.Device.{after};
-ghost use Rattle.tier.specs.Meaning.{put, take, change, touch, clear, look_of, put_answer, held_answer};
+ghost use Rattle.std.specs.Prelude.{◌≡◌, ◌≤◌, true, IfOk};
 ghost use Rattle.tier.specs.Building.{Builds};
 ghost use Rattle.ranked.specs.Ages.{OldestLeaves};
-ghost use Rattle.assoc.specs.Sets.{lru, index, nth, called, empty, built, lru_of, lrus_of};
+ghost use Rattle.assoc.specs.Sets.{index, empty, built};
 ghost use Rattle.assoc.specs.SetAssociative.{sets_of, meaning_of};
 ghost use Rattle.assoc.specs.SetsLaws.{sets_lawful};
 ghost use Rattle.assoc.specs.Calls.{good_of};
 
 use crate::set_associative::SetAssociative;
 use parts::line::Line;
-use parts::mark::Mark;
 use parts::refusal::{BuildError, Refusal};
 use ranked::policy::Lru;
 use ranked::ranked::Ranked;
@@ -45,42 +42,22 @@ impl SetAssociative {
     ) -> Result<SetAssociative, BuildError<SetAssociative>>
         ensures { Builds meaning_of result (built sets ways) }
     {
-        if sets < 1 || sets > MOST_SETS || ways < 1 || ways > MOST_WAYS {
-            let one = SetAssociative::cleared(heap, 1, 1)?;
-            return Err(BuildError::BadSize(one));
-        }
-        let tier = SetAssociative::cleared(heap, sets, ways)?;
-        Ok(tier)
+        let fits = 1 <= sets && sets <= MOST_SETS && 1 <= ways && ways <= MOST_WAYS;
+        BuildError::build(fits, (sets, ways), (1, 1), |(sets, ways)| {
+            SetAssociative::cleared(heap, sets, ways)
+        })
     }
 
-    fn cleared(heap: Global, sets: usize, ways: usize) -> Result<SetAssociative, AllocError>
-        requires { (1 ≤ sets) × (1 ≤ ways) × (ways ≤ 4) }
-        ensures { IfOk result (λ t. sets_of t ≡ empty sets ways) }
-    {
-        let sets = SetAssociative::empty_sets(heap, sets, ways)?;
-        Ok(SetAssociative { sets })
-    }
-
-    fn empty_sets(heap: Global, count: usize, ways: usize) -> Result<Vec<Ranked<Lru>>, AllocError>
-        requires { (1 ≤ ways) × (ways ≤ 4) }
-        ensures { IfOk result (λ v. lrus_of v.items ≡ empty count ways) }
+    fn cleared(heap: Global, count: usize, ways: usize) -> Result<SetAssociative, AllocError>
+        requires { (1 ≤ count) × (1 ≤ ways) × (ways ≤ 4) }
+        ensures { IfOk result (λ t. sets_of t ≡ empty count ways) }
     {
         let mut sets = Vec::new(heap);
         for made in 0..count {
-            let set = SetAssociative::empty_set(heap, ways)?;
+            let set = Ranked::with_policy(heap, Lru, ways).or_else(BuildError::into_tier)?;
             sets.push(set)?;
         }
-        Ok(sets)
-    }
-
-    fn empty_set(heap: Global, ways: usize) -> Result<Ranked<Lru>, AllocError>
-        requires { (1 ≤ ways) × (ways ≤ 4) }
-        ensures { IfOk result (λ t. lru_of t ≡ lru ways) }
-    {
-        match Ranked::with_policy(heap, Lru, ways) {
-            Ok(set) => Ok(set),
-            Err(_) => Err(AllocError),
-        }
+        Ok(SetAssociative { sets })
     }
 
     // The number of the set of a block.
@@ -88,62 +65,6 @@ impl SetAssociative {
         ensures { result ≡ index (sets_of self.now) block }
     {
         usize::from(block) % self.sets.len()
-    }
-
-    // The calls of a block's set.
-    fn look_in(&self, set: usize, block: u16) -> Option<(u8, u32, u8)>
-        requires { set ≡ index (sets_of self.now) block }
-        ensures { result ≡ look_of (nth (sets_of self.now) set) block }
-    {
-        self.sets[set].look(block)
-    }
-
-    fn put_in(
-        &mut self,
-        set: usize,
-        block: u16,
-        mark: Mark,
-        stamp: u32,
-    ) -> Result<Option<Line>, Refusal>
-        requires { set ≡ index (sets_of self.old) block }
-        ensures answer { result ≡ put_answer (nth (sets_of self.old) set) block mark stamp }
-        ensures next { sets_of self.new ≡ called (sets_of self.old) set (put block mark stamp) }
-    {
-        self.sets[set].put(block, mark, stamp)
-    }
-
-    fn take_in(&mut self, set: usize, block: u16) -> Option<(u8, u32, u8)>
-        requires { set ≡ index (sets_of self.old) block }
-        ensures answer { result ≡ look_of (nth (sets_of self.old) set) block }
-        ensures next { sets_of self.new ≡ called (sets_of self.old) set (take block) }
-    {
-        self.sets[set].take(block)
-    }
-
-    fn change_in(&mut self, set: usize, block: u16, mark: Mark, stamp: u32) -> Result<(), Refusal>
-        requires { set ≡ index (sets_of self.old) block }
-        ensures answer { result ≡ held_answer (nth (sets_of self.old) set) block }
-        ensures next { sets_of self.new ≡ called (sets_of self.old) set (change block mark stamp) }
-    {
-        self.sets[set].change(block, mark, stamp)
-    }
-
-    fn touch_in(&mut self, set: usize, block: u16) -> Result<(), Refusal>
-        requires { set ≡ index (sets_of self.old) block }
-        ensures answer { result ≡ held_answer (nth (sets_of self.old) set) block }
-        ensures next { sets_of self.new ≡ called (sets_of self.old) set (touch block) }
-    {
-        self.sets[set].touch(block)
-    }
-
-    // Clears the first sets, as many as are told.
-    fn clear_first(&mut self, count: usize)
-        requires { count ≤ vec_len self.old.sets }
-        ensures { vec_len self.old.sets ≤ count → sets_of self.new ≡ map (λ m. after m clear) (sets_of self.old) }
-    {
-        for i in 0..count {
-            self.sets[i].clear();
-        }
     }
 }
 
@@ -157,32 +78,32 @@ impl Tier for SetAssociative {
     }
 
     fn look(&self, block: u16) -> Option<(u8, u32, u8)> {
-        let set = self.set_of(block);
-        self.look_in(set, block)
+        self.sets[self.set_of(block)].look(block)
     }
 
-    fn put(&mut self, block: u16, mark: Mark, stamp: u32) -> Result<Option<Line>, Refusal> {
-        let set = self.set_of(block);
-        self.put_in(set, block, mark, stamp)
+    fn put(&mut self, line: Line) -> Result<Option<Line>, Refusal> {
+        let set = self.set_of(line.block);
+        self.sets[set].put(line)
     }
 
     fn take(&mut self, block: u16) -> Option<(u8, u32, u8)> {
         let set = self.set_of(block);
-        self.take_in(set, block)
+        self.sets[set].take(block)
     }
 
-    fn change(&mut self, block: u16, mark: Mark, stamp: u32) -> Result<(), Refusal> {
-        let set = self.set_of(block);
-        self.change_in(set, block, mark, stamp)
+    fn change(&mut self, line: Line) -> Result<(), Refusal> {
+        let set = self.set_of(line.block);
+        self.sets[set].change(line)
     }
 
     fn touch(&mut self, block: u16) -> Result<(), Refusal> {
         let set = self.set_of(block);
-        self.touch_in(set, block)
+        self.sets[set].touch(block)
     }
 
     fn clear(&mut self) {
-        let count = self.sets.len();
-        self.clear_first(count);
+        for set in self.sets.iter_mut() {
+            set.clear();
+        }
     }
 }

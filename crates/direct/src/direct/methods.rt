@@ -9,7 +9,6 @@ ghost use Rattle.direct.specs.DirectLaws.{direct_of-lawful};
 
 use crate::direct::Direct;
 use parts::line::Line;
-use parts::mark::Mark;
 use parts::refusal::{BuildError, Refusal};
 use std::alloc::{AllocError, Global};
 use tier::Tier;
@@ -29,12 +28,8 @@ impl Direct {
     fn sized(heap: Global, lines: usize) -> Result<Direct, BuildError<Direct>>
         ensures { Builds direct_of result (built lines) }
     {
-        if lines < 1 || lines > MOST_LINES {
-            let one = Direct::cleared(heap, 1)?;
-            return Err(BuildError::BadSize(one));
-        }
-        let tier = Direct::cleared(heap, lines)?;
-        Ok(tier)
+        let fits = 1 <= lines && lines <= MOST_LINES;
+        BuildError::build(fits, lines, 1, |lines| Direct::cleared(heap, lines))
     }
 
     fn cleared(heap: Global, lines: usize) -> Result<Direct, AllocError>
@@ -65,54 +60,37 @@ impl Tier for Direct {
 
     fn look(&self, block: u16) -> Option<(u8, u32, u8)> {
         let slot = self.slot(block);
-        match self.lines[slot] {
-            Some(line) if line.block == block => Some((line.mark.number(), line.stamp, 1)),
-            _ => None,
-        }
+        self.lines[slot].filter(|line| line.block == block).map(Line::shown)
     }
 
-    fn put(&mut self, block: u16, mark: Mark, stamp: u32) -> Result<Option<Line>, Refusal> {
-        match self.look(block) {
-            Some(_) => Err(Refusal::AlreadyHeld),
-            None => {
-                let slot = self.slot(block);
-                let out = self.lines[slot];
-                self.lines[slot] = Some(Line { block, mark, stamp });
-                Ok(out)
-            }
+    fn put(&mut self, line: Line) -> Result<Option<Line>, Refusal> {
+        if self.look(line.block).is_some() {
+            return Err(Refusal::AlreadyHeld);
         }
+        let slot = self.slot(line.block);
+        Ok(self.lines[slot].replace(line))
     }
 
     fn take(&mut self, block: u16) -> Option<(u8, u32, u8)> {
-        let shown = self.look(block);
-        if shown.is_some() {
-            let slot = self.slot(block);
-            self.lines[slot] = None;
-        }
-        shown
+        let shown = self.look(block)?;
+        let slot = self.slot(block);
+        self.lines[slot] = None;
+        Some(shown)
     }
 
-    fn change(&mut self, block: u16, mark: Mark, stamp: u32) -> Result<(), Refusal> {
-        match self.look(block) {
-            Some(_) => {
-                let slot = self.slot(block);
-                self.lines[slot] = Some(Line { block, mark, stamp });
-                Ok(())
-            }
-            None => Err(Refusal::NotHeld),
-        }
+    fn change(&mut self, line: Line) -> Result<(), Refusal> {
+        self.look(line.block).ok_or(Refusal::NotHeld)?;
+        let slot = self.slot(line.block);
+        self.lines[slot] = Some(line);
+        Ok(())
     }
 
     fn touch(&mut self, block: u16) -> Result<(), Refusal> {
-        match self.look(block) {
-            Some(_) => Ok(()),
-            None => Err(Refusal::NotHeld),
-        }
+        self.look(block).ok_or(Refusal::NotHeld)?;
+        Ok(())
     }
 
     fn clear(&mut self) {
-        for i in 0..self.lines.len() {
-            self.lines[i] = None;
-        }
+        self.lines.fill(None);
     }
 }

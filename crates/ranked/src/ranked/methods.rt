@@ -8,7 +8,6 @@ ghost use Rattle.ranked.specs.RankedLaws.{ranked-lawful};
 use crate::policy::Replacement;
 use crate::ranked::Ranked;
 use parts::line::Line;
-use parts::mark::Mark;
 use parts::refusal::{BuildError, Refusal};
 use std::alloc::{AllocError, Global};
 use tier::Tier;
@@ -25,12 +24,8 @@ impl<P: Replacement + Drop> Ranked<P> {
     ) -> Result<Ranked<P>, BuildError<Ranked<P>>>
         ensures { Builds (ranked_of P.Replacement.renewing) result (built (P.Replacement.renewing policy) ways) }
     {
-        if ways < 1 || ways > MOST_WAYS {
-            let one = Ranked::cleared(heap, policy, 1)?;
-            return Err(BuildError::BadSize(one));
-        }
-        let tier = Ranked::cleared(heap, policy, ways)?;
-        Ok(tier)
+        let fits = 1 <= ways && ways <= MOST_WAYS;
+        BuildError::build(fits, ways, 1, |ways| Ranked::cleared(heap, policy, ways))
     }
 
     fn cleared(heap: Global, policy: P, ways: usize) -> Result<Ranked<P>, AllocError>
@@ -45,12 +40,7 @@ impl<P: Replacement + Drop> Ranked<P> {
     fn position(&self, block: u16) -> Option<usize>
         ensures { Place self.now.held.items block result }
     {
-        for i in 0..self.held.len() {
-            if self.held[i].block == block {
-                return Some(i);
-            }
-        }
-        None
+        self.held.iter().position(|line| line.block == block)
     }
 
     fn remove(&mut self, block: u16) -> Option<Line>
@@ -58,10 +48,8 @@ impl<P: Replacement + Drop> Ranked<P> {
         ensures items { self.new.held.items ≡ without self.old.held.items block }
         ensures alike { Alike self.old self.new }
     {
-        match self.position(block) {
-            Some(i) => Some(self.held.remove(i)),
-            None => None,
-        }
+        let place = self.position(block)?;
+        Some(self.held.remove(place))
     }
 
     // Adds a line as the youngest.
@@ -98,57 +86,36 @@ impl<P: Replacement + Drop> Tier for Ranked<P> {
     }
 
     fn look(&self, block: u16) -> Option<(u8, u32, u8)> {
-        match self.position(block) {
-            Some(i) => {
-                let line = self.held[i];
-                Some((line.mark.number(), line.stamp, 1))
-            }
-            None => None,
-        }
+        let place = self.position(block)?;
+        Some(self.held[place].shown())
     }
 
-    fn put(&mut self, block: u16, mark: Mark, stamp: u32) -> Result<Option<Line>, Refusal> {
-        match self.position(block) {
-            Some(_) => Err(Refusal::AlreadyHeld),
-            None => {
-                let out = self.make_room();
-                self.append(Line { block, mark, stamp });
-                Ok(out)
-            }
+    fn put(&mut self, line: Line) -> Result<Option<Line>, Refusal> {
+        if self.position(line.block).is_some() {
+            return Err(Refusal::AlreadyHeld);
         }
+        let out = self.make_room();
+        self.append(line);
+        Ok(out)
     }
 
     fn take(&mut self, block: u16) -> Option<(u8, u32, u8)> {
-        match self.remove(block) {
-            Some(line) => Some((line.mark.number(), line.stamp, 1)),
-            None => None,
-        }
+        self.remove(block).map(Line::shown)
     }
 
-    fn change(&mut self, block: u16, mark: Mark, stamp: u32) -> Result<(), Refusal> {
-        match self.position(block) {
-            Some(i) => {
-                self.held[i] = Line { block, mark, stamp };
-                Ok(())
-            }
-            None => Err(Refusal::NotHeld),
-        }
+    fn change(&mut self, line: Line) -> Result<(), Refusal> {
+        let place = self.position(line.block).ok_or(Refusal::NotHeld)?;
+        self.held[place] = line;
+        Ok(())
     }
 
     fn touch(&mut self, block: u16) -> Result<(), Refusal> {
-        if !self.policy.renews() {
-            return match self.position(block) {
-                Some(_) => Ok(()),
-                None => Err(Refusal::NotHeld),
-            };
+        let place = self.position(block).ok_or(Refusal::NotHeld)?;
+        if self.policy.renews() {
+            let line = self.held.remove(place);
+            self.append(line);
         }
-        match self.remove(block) {
-            Some(line) => {
-                self.append(line);
-                Ok(())
-            }
-            None => Err(Refusal::NotHeld),
-        }
+        Ok(())
     }
 
     fn clear(&mut self) {
