@@ -1,7 +1,7 @@
 -- Sets that are cleared one after another are all cleared in the end.
 use Rattle.std.proofs.Common.{rules}
 use Rattle.assoc.proofs.Calls.{cleared_more, cleared_all}
-use Rattle.assoc.proofs.set_associative.methods.SetAssociativeTier.clear.Goals as goal
+use Rattle.assoc.proofs.set_associative.SetAssociativeTier.clear.Goals as goal
 
 pub loop-set-preserved : goal.loop-set-preserved
 loop-set-preserved c =

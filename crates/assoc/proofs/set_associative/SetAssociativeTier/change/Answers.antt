@@ -2,7 +2,7 @@
 use Rattle.std.proofs.Common.{refl}
 use Rattle.tier.specs.Meaning.{change}
 use Rattle.assoc.proofs.Calls.{set_called}
-use Rattle.assoc.proofs.set_associative.methods.SetAssociativeTier.change.Goals as goal
+use Rattle.assoc.proofs.set_associative.SetAssociativeTier.change.Goals as goal
 
 pub invariant_of-self-clause-placed : goal.invariant_of-self-clause-placed
 invariant_of-self-clause-placed c =
