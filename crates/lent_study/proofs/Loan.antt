@@ -7,7 +7,7 @@ use Rattle.memory.specs.FlatLaws.{flat-lawful}
 use Rattle.protocol.specs.declared.call.Call.{Call}
 use Rattle.protocol.specs.declared.refusal.Refusal.{Refusal}
 use Rattle.protocol.specs.declared.refusal.Refusal.TheVariants.{TooManyCores, NoBlocks}
-use Rattle.protocol.specs.Prices.{Prices}
+use Rattle.protocol.specs.declared.weights.Prices.{Prices}
 use Rattle.row.specs.Cores.{CoreMeaning, count_of}
 use Rattle.study.specs.Run.{RunMeaning}
 use Rattle.study.specs.Opening.{opened, opening}

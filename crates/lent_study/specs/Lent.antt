@@ -5,14 +5,14 @@ use Rattle.memory.specs.Meaning.{MemoryMeaning, Lent, lent_of}
 use Rattle.memory.specs.Flat.{flat}
 use Rattle.protocol.specs.declared.call.Call.{Call}
 use Rattle.protocol.specs.declared.refusal.Refusal.{Refusal}
-use Rattle.protocol.specs.Prices.{Prices}
+use Rattle.protocol.specs.declared.weights.Prices.{Prices}
 use Rattle.row.specs.Cores.{CoreMeaning}
+use Rattle.study.specs.declared.quote.Quote.{Quote}
 use Rattle.study.specs.declared.turn.Turn.{Turn}
 use Rattle.study.specs.Run.{RunMeaning}
 use Rattle.study.specs.Opening.{opening}
 use Rattle.study.specs.Play.{played, calls_of}
 use Rattle.study.specs.Settling.{Ending, simulated, recorded}
-use Rattle.lent_study.specs.declared.Quote.{Quote}
 
 -- a draft is weighed and opened
 abbrev pub started : Result Prices Refusal → List CoreMeaning → MemoryMeaning → Result RunMeaning Refusal
@@ -25,7 +25,7 @@ memory_after (Ok r) m ks = (played r ks).memory
 memory_after (Err e) m ks = m
 
 abbrev pub quote_of : Result Ending Refusal → Result Quote Refusal
-quote_of (Ok x) = Ok (record { accesses = x.accesses; total = x.total; figure = x.figure })
+quote_of (Ok x) = Ok x.quote
 quote_of (Err e) = Err e
 
 abbrev pub lent : ℕ → List Cell → Lent

@@ -8,44 +8,32 @@ ghost use Rattle.lent_study.specs.Lent.{LentStudy};
 use memory::cell::Cell;
 use memory::flat::Flat;
 use protocol::refusal::Refusal;
+use protocol::weights::Prices;
 use row::Row;
+use study::quote::Quote;
 use study::stages::Draft;
 use study::turn::Turn;
-
-/// What a study came to.
-#[derive(Drop)]
-pub struct Quote {
-    pub accesses: u32,
-    pub total: u64,
-    /// The mean penalty per access in hundredths, rounded down; none without accesses.
-    pub figure: Option<u64>,
-}
 
 // The study, which gives the table back.
 fn lend<'a, R: Row + Drop>(
     row: R,
     table: &'a mut [Cell],
-    weights: (u16, u16, u16, u16, u16),
+    prices: Prices,
     schedule: &mut [Turn],
     quote: &mut Result<Quote, Refusal>,
 ) -> &'a mut [Cell]
     ensures named { result.ghost_name ≡ table.entry.ghost_name }
-    ensures study { LentStudy (weighing weights.0 weights.1 weights.2 weights.3 weights.4) (R.Row.cores row) table.entry.ghost_name table.old result.now schedule.old schedule.new quote.new }
+    ensures study { LentStudy (weighing prices) (R.Row.cores row) table.entry.ghost_name table.old result.now schedule.old schedule.new quote.new }
 {
-    let (w1, w2, w3, w4, wm) = weights;
     let mut draft = Draft::new(row, Flat::over(table));
-    if let Err(refusal) = draft.weigh(w1, w2, w3, w4, wm) {
+    if let Err(refusal) = draft.weigh(prices) {
         *quote = Err(refusal);
         let (_, memory) = draft.into_parts();
         return memory.into_table();
     }
     match draft.simulate(schedule) {
         Ok(settled) => {
-            *quote = Ok(Quote {
-                accesses: settled.accesses,
-                total: settled.total,
-                figure: settled.figure,
-            });
+            *quote = Ok(settled.quote);
             settled.memory.into_table()
         }
         Err(refused) => {
@@ -56,17 +44,17 @@ fn lend<'a, R: Row + Drop>(
     }
 }
 
-/// Weighs, opens, plays and settles a study whose memory is the caller's table, with the weights of levels 1 to 4 and of main
-/// memory. What the table then holds follows from the definitions, whatever it held; a refused study leaves it as it was.
+/// Weighs, opens, plays and settles a study whose memory is the caller's table. What the table then holds follows from the
+/// definitions, whatever it held; a refused study leaves it as it was.
 pub fn simulate_in_table<R: Row + Drop>(
     row: R,
     table: &mut [Cell],
-    weights: (u16, u16, u16, u16, u16),
+    prices: Prices,
     schedule: &mut [Turn],
 ) -> Result<Quote, Refusal>
-    ensures { (a : ℕ) × LentStudy (weighing weights.0 weights.1 weights.2 weights.3 weights.4) (R.Row.cores row) a table.old table.new schedule.old schedule.new result }
+    ensures { (a : ℕ) × LentStudy (weighing prices) (R.Row.cores row) a table.old table.new schedule.old schedule.new result }
 {
     let mut quote = Err(Refusal::NoBlocks);
-    let _ = lend(row, table, weights, schedule, &mut quote);
+    let _ = lend(row, table, prices, schedule, &mut quote);
     quote
 }

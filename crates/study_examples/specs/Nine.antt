@@ -11,7 +11,8 @@ use Rattle.protocol.specs.declared.call.Call.{Call}
 use Rattle.protocol.specs.declared.call.Call.TheVariants.{Read, Write, Fetch, Resume, Flush}
 use Rattle.protocol.specs.declared.refusal.Refusal.{Refusal}
 use Rattle.protocol.specs.declared.refusal.Refusal.TheVariants.{StaleBlock}
-use Rattle.protocol.specs.Prices.{Prices, prices}
+use Rattle.protocol.specs.declared.weights.Prices.{Prices}
+use Rattle.protocol.specs.Prices.{prices}
 use Rattle.machine.specs.Machine.{two_cores}
 use Rattle.study.specs.declared.turn.Turn.{Turn}
 use Rattle.study.specs.Run.{RunMeaning}
@@ -34,7 +35,7 @@ begun a = opened two_cores (blocks a) weights
 
 -- a call, its answer, and the total after it
 abbrev pub turn : Call → Result Answer Refusal → ℕ → Turn
-turn k x t = record { call = k; answer = Some x; total = t }
+turn k x t = record { call = k; played = Some (record { answer = x; total = t }) }
 
 -- core 0 reads block 3 and writes it, and core 1 reads what was written
 abbrev pub nine : List Turn

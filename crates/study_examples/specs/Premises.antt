@@ -13,7 +13,8 @@ use Rattle.interleaved.specs.Interleaved.{interleaved}
 use Rattle.row.specs.Cores.{count_of, AllLawful}
 use Rattle.machine.specs.Machine.{two_cores}
 use Rattle.study.specs.Opening.{opened, opening}
-use Rattle.study.specs.Warrant.{Affordable, Warranted}
+use Rattle.protocol.specs.Prices.{Affordable}
+use Rattle.study.specs.Warrant.{Warranted}
 use Rattle.study_examples.specs.Nine.{weights}
 
 pub record Premises : Type 0 where

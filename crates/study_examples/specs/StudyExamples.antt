@@ -18,6 +18,6 @@ pub record StudyExamples : Type 0 where
   pub nine_begin : (a : ℕ) → opening two_cores (blocks a) weights ≡ Ok (begun a)
   pub nine_history : (a : ℕ) → history (begun a) (calls_of nine) ≡ nine
   pub nine_tally : (a : ℕ) → (over a).tally ≡ tally 8 1 3 300
-  pub nine_figure : (a : ℕ) → (end_of (over a)).figure ≡ Some 10000
+  pub nine_figure : (a : ℕ) → (end_of (over a)).quote.figure ≡ Some 10000
   -- the table that was lent, afterwards
   pub nine_lent : (a : ℕ) → lent_of (over a).memory ≡ record { name = a; cells = table_after } ∷ []

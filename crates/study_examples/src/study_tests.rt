@@ -1,126 +1,115 @@
 //! Studies: the limits of cores, weights and steps, and the nine calls. What is written for any row is checked sooner.
-use assoc::set_associative::SetAssociative;
 use direct::direct::Direct;
-use machine::{TwoCores, two_cores};
+use machine::two_cores;
 use memory::Memory;
 use memory::cell::{Cell, State};
-use memory::flat::{Flat, RefusedTable};
+use memory::flat::Flat;
 use pair::Pair;
+use parts::refusal::BuildError;
 use protocol::answer::Answer;
 use protocol::call::Call;
 use protocol::refusal::Refusal;
+use protocol::weights::Prices;
 use row::Row;
 use row::one_core::Core;
 use std::alloc::{AllocError, Global};
 use std::process::Abort;
 use std::test::Fail;
+use study::quote::Quote;
 use study::stages::{Draft, Run};
-use study::turn::Turn;
+use study::turn::{Played, Turn};
 
 const OLD: Cell = Cell {
     state: State::Stale,
     stamp: 7,
 };
 
-// The memory over a table, made in either case.
-fn over(table: &mut [Cell]) -> Flat<'_> {
-    match Flat::new(table) {
-        Ok(memory) => memory,
-        Err(RefusedTable { refusal: _, memory }) => memory,
-    }
-}
-
-type One = Core<Direct>;
-
-type Two = Pair<One, One>;
-
-type Four = Pair<Two, Two>;
-
-type Eight = Pair<Four, Four>;
-
 // A core with one line.
-fn one(heap: Global) -> Result<One, AllocError> {
-    match Direct::new(heap, 1) {
-        Ok(tier) => Ok(Core::new(tier)),
-        Err(_) => Err(AllocError),
-    }
+fn one(heap: Global) -> Result<Core<Direct>, AllocError> {
+    let tier = Direct::new(heap, 1).or_else(BuildError::into_tier)?;
+    Ok(Core::new(tier))
 }
 
-fn doubled<R: Row + Drop>(
-    first: Result<R, AllocError>,
-    second: Result<R, AllocError>,
-) -> Result<Pair<R, R>, AllocError> {
-    let first = first?;
-    Ok(Pair::new(first, second?))
+// Two rows side by side, each as the closure makes it.
+fn doubled<R: Row + Drop, F: Fn() -> Result<R, AllocError>>(row: F) -> Result<Pair<R, R>, AllocError>
+    requires { F.IsAlwaysCallable row }
+{
+    Ok(Pair::new(row()?, row()?))
 }
 
-fn two(heap: Global) -> Result<Two, AllocError> {
-    doubled(one(heap), one(heap))
-}
-
-fn four(heap: Global) -> Result<Four, AllocError> {
-    doubled(two(heap), two(heap))
-}
-
-fn eight(heap: Global) -> Result<Eight, AllocError> {
-    doubled(four(heap), four(heap))
-}
-
-// The number of the refusal, 0 for none, and of what comes back how many cores it has and the stamp of block 0.
-fn opening<R: Row + Drop>(row: R) -> (u8, u16, Option<u32>) {
+// The number of the refusal, if there is one, and of what comes back how many cores it has and the stamp of block 0.
+fn opening<R: Row + Drop>(row: R) -> (Option<u8>, u16, Option<u32>) {
     let mut table = [OLD];
-    match Draft::new(row, over(&mut table)).open() {
+    match Draft::new(row, Flat::over(&mut table)).open() {
         Ok(run) => {
             let settled = run.settle();
             (
-                0,
+                None,
                 settled.row.count(),
                 settled.memory.ask(0).unwrap_or(None),
             )
         }
         Err(refused) => {
-            let number = refused.refusal.number();
+            let number = u8::from(refused.refusal);
             let (row, memory) = refused.draft.into_parts();
-            (number, row.count(), memory.ask(0).unwrap_or(None))
+            (
+                Some(number),
+                row.count(),
+                memory.ask(0).unwrap_or(None),
+            )
         }
     }
 }
 
 #[test]
 fn cores_are_limited(rt: HostRuntime) -> Result<(), Fail> {
-    assert_eq!(rt; opening(eight(rt.alloc())?), (0, 8, Some(0)));
-    let nine = Pair::new(eight(rt.alloc())?, one(rt.alloc())?);
-    assert_eq!(rt; opening(nine), (1, 9, None));
+    let heap = rt.alloc();
+    let eight = doubled(|| doubled(|| doubled(|| one(heap))))?;
+    assert_eq!(rt; opening(eight), (None, 8, Some(0)));
+    let eight = doubled(|| doubled(|| doubled(|| one(heap))))?;
+    let nine = Pair::new(eight, one(heap)?);
+    assert_eq!(rt; opening(nine), (Some(1), 9, None));
     Ok(())
 }
 
-// The accesses, the total and the figure of a study, unless it is refused.
+// What a study comes to, unless it is refused.
 fn quote<R: Row + Drop, M: Memory + Drop>(
     draft: Draft<R, M>,
     schedule: &mut [Turn],
-) -> Option<(u32, u64, Option<u64>)> {
+) -> Option<Quote> {
     match draft.simulate(schedule) {
-        Ok(settled) => Some((settled.accesses, settled.total, settled.figure)),
+        Ok(settled) => Some(settled.quote),
         Err(_) => None,
     }
 }
 
 fn weighs<R: Row + Drop>(rt: &impl Abort, row: R) {
     let mut table = [OLD];
-    let mut draft = Draft::new(row, over(&mut table));
-    assert_eq!(rt; draft.weigh(1000, 1000, 1000, 1000, 1000), Ok(()));
+    let mut draft = Draft::new(row, Flat::over(&mut table));
+    let most = Prices {
+        w1: 1000,
+        w2: 1000,
+        w3: 1000,
+        w4: 1000,
+        wm: 1000,
+    };
+    assert_eq!(rt; draft.weigh(most), Ok(()));
+    let none = Prices {
+        w1: 0,
+        w2: 0,
+        w3: 0,
+        w4: 0,
+        wm: 0,
+    };
     let high = [
-        (1001, 0, 0, 0, 0),
-        (0, 1001, 0, 0, 0),
-        (0, 0, 1001, 0, 0),
-        (0, 0, 0, 1001, 0),
-        (0, 0, 0, 0, 1001),
+        Prices { w1: 1001, ..none },
+        Prices { w2: 1001, ..none },
+        Prices { w3: 1001, ..none },
+        Prices { w4: 1001, ..none },
+        Prices { wm: 1001, ..none },
     ];
-    for (w1, w2, w3, w4, wm) in high {
-        assert_eq!(rt;
-            draft.weigh(w1, w2, w3, w4, wm),
-            Err(Refusal::WeightTooHigh)
-        );
+    for prices in high {
+        assert_eq!(rt; draft.weigh(prices), Err(Refusal::WeightTooHigh));
     }
     // a fetch and a read at level 1, by the weights that were taken
     let mut schedule = [
@@ -128,7 +117,12 @@ fn weighs<R: Row + Drop>(rt: &impl Abort, row: R) {
         Turn::new(Call::Fetch(0)),
         Turn::new(Call::Resume(0)),
     ];
-    assert_eq!(rt; quote(draft, &mut schedule), Some((1, 2000, Some(200_000))));
+    let expected = Quote {
+        accesses: 1,
+        total: 2000,
+        figure: Some(200_000),
+    };
+    assert_eq!(rt; quote(draft, &mut schedule), Some(expected));
 }
 
 #[test]
@@ -138,22 +132,20 @@ fn weights_are_limited(rt: HostRuntime) -> Result<(), Fail> {
 }
 
 // How many calls are accepted before one is refused, and the number of the refusal.
-fn accepted<R: Row, M: Memory>(run: &mut Run<R, M>) -> (u32, u8) {
+fn accepted<R: Row, M: Memory>(run: &mut Run<R, M>) -> Option<(u32, u8)> {
     for count in 0..1_000_001 {
-        match run.step(Call::Commit(0, 0)) {
-            Ok(_) => {}
-            Err(refusal) => return (count, refusal.number()),
+        if let Err(refusal) = run.step(Call::Commit(0, 0)) {
+            return Some((count, u8::from(refusal)));
         }
     }
-    (1_000_001, 0)
+    None
 }
 
 fn steps<R: Row + Drop>(rt: &impl Abort, row: R) -> Result<(), Fail> {
     let mut table = [OLD];
-    match Draft::new(row, over(&mut table)).open() {
-        Ok(run) => {
-            let mut run = run;
-            assert_eq!(rt; accepted(&mut run), (1_000_000, 4));
+    match Draft::new(row, Flat::over(&mut table)).open() {
+        Ok(mut run) => {
+            assert_eq!(rt; accepted(&mut run), Some((1_000_000, 4)));
             Ok(())
         }
         Err(_) => Err(Fail::new("refused")),
@@ -165,14 +157,18 @@ fn steps_are_limited(rt: HostRuntime) -> Result<(), Fail> {
     steps(&rt, one(rt.alloc())?)
 }
 
-// The number of the first turn with another answer or total, from 1; 0 where all agree.
-fn first_wrong(turns: &[Turn], expected: &[(Result<Answer, Refusal>, u64)]) -> usize {
-    for (i, (turn, (answer, total))) in turns.iter().zip(expected.iter()).enumerate() {
-        if turn.answer != Some(*answer) || turn.total != *total {
-            return i.saturating_add(1);
-        }
-    }
-    0
+// The first turn with another answer or total, if there is one.
+fn first_wrong(turns: &[Turn], expected: &[(Result<Answer, Refusal>, u64)]) -> Option<usize> {
+    turns
+        .iter()
+        .zip(expected.iter())
+        .position(|(turn, (answer, total))| {
+            turn.played
+                != Some(Played {
+                    answer: *answer,
+                    total: *total,
+                })
+        })
 }
 
 fn nine<R: Row + Drop>(rt: &impl Abort, row: R) {
@@ -199,12 +195,24 @@ fn nine<R: Row + Drop>(rt: &impl Abort, row: R) {
         (Ok(Answer::Read(1)), 300),
     ];
     let mut table = [OLD; 16];
-    let mut draft = Draft::new(row, over(&mut table));
-    assert_eq!(rt; draft.weigh(0, 10, 10, 10, 100), Ok(()));
-    assert_eq!(rt; quote(draft, &mut schedule), Some((3, 300, Some(10_000))));
-    assert_eq!(rt; first_wrong(&schedule, &expected), 0);
+    let mut draft = Draft::new(row, Flat::over(&mut table));
+    let prices = Prices {
+        w1: 0,
+        w2: 10,
+        w3: 10,
+        w4: 10,
+        wm: 100,
+    };
+    assert_eq!(rt; draft.weigh(prices), Ok(()));
+    let expected_quote = Quote {
+        accesses: 3,
+        total: 300,
+        figure: Some(10_000),
+    };
+    assert_eq!(rt; quote(draft, &mut schedule), Some(expected_quote));
+    assert_eq!(rt; first_wrong(&schedule, &expected), None);
     // the table that was lent
-    let memory = over(&mut table);
+    let memory = Flat::over(&mut table);
     for block in 0..16 {
         assert_eq!(rt;
             memory.ask(block).unwrap_or(None),

@@ -4,8 +4,9 @@
 use machine::two_cores;
 use memory::cell::{Cell, State};
 use memory::flat::Flat;
-use protocol::answer::{value_of, word_of};
+use protocol::answer::{Word, value_of};
 use protocol::call::Call;
+use protocol::weights::Prices;
 use std::io;
 use std::io::Write;
 use study::stages::Draft;
@@ -13,23 +14,14 @@ use study::turn::Turn;
 
 // A line of the report: the number of the call, the word of its answer, the value, and the total.
 fn print_turn(rt: &HostRuntime, number: usize, turn: &Turn) -> io::Result<()> {
-    match turn.answer {
-        None => Ok(()),
-        Some(outcome) => {
-            let value = value_of(outcome);
-            let total = turn.total;
-            print!(rt; "{number}\t")?;
-            rt.stdout().write_all(word_of(outcome).bytes())?;
-            println!(rt; "\t{value}\t{total}")
-        }
+    if let Some(played) = turn.played {
+        let value = value_of(played.answer);
+        let total = played.total;
+        print!(rt; "{number}\t")?;
+        rt.stdout().write_all(Word::from(played.answer).bytes())?;
+        println!(rt; "\t{value}\t{total}")?;
     }
-}
-
-fn print_quote(rt: &HostRuntime, accesses: u32, total: u64, figure: Option<u64>) -> io::Result<()> {
-    match figure {
-        Some(figure) => println!(rt; "quote\t{accesses}\t{total}\t{figure}"),
-        None => println!(rt; "quote\t{accesses}\t{total}\t-"),
-    }
+    Ok(())
 }
 
 fn run(rt: &HostRuntime) -> anyhow::Result<()> {
@@ -49,17 +41,25 @@ fn run(rt: &HostRuntime) -> anyhow::Result<()> {
         stamp: 7,
     }; 16];
     let row = two_cores(rt.alloc())?;
+    let prices = Prices {
+        w1: 0,
+        w2: 10,
+        w3: 10,
+        w4: 10,
+        wm: 100,
+    };
     let mut draft = Draft::new(row, Flat::over(&mut table));
-    let _ = draft.weigh(0, 10, 10, 10, 100);
+    let _ = draft.weigh(prices);
     match draft.simulate(&mut schedule) {
         Ok(settled) => {
-            for i in 0..schedule.len() {
-                print_turn(rt, i + 1, &schedule[i])?;
+            for (i, turn) in schedule.iter().enumerate() {
+                print_turn(rt, i + 1, turn)?;
             }
-            print_quote(rt, settled.accesses, settled.total, settled.figure)?;
+            let quote = settled.quote;
+            println!(rt; "quote\t{quote}")?;
         }
         Err(refused) => {
-            let number = refused.refusal.number();
+            let number = u8::from(refused.refusal);
             println!(rt; "refused\t{number}")?;
         }
     }

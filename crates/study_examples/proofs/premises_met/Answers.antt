@@ -20,7 +20,7 @@ use Rattle.protocol.specs.declared.refusal.Refusal.{Refusal}
 use Rattle.protocol.specs.declared.refusal.Refusal.TheVariants.{NoBlocks}
 use Rattle.study.specs.Run.{RunMeaning}
 use Rattle.study.specs.Opening.{opened, opening}
-use Rattle.study.specs.Warrant.{Affordable}
+use Rattle.protocol.specs.Prices.{Affordable}
 use Rattle.study.proofs.Warranty.{warrant}
 use Rattle.study_examples.specs.Nine.{weights}
 use Rattle.study_examples.proofs.premises_met.Goals as goal
