@@ -3,7 +3,7 @@
 #![tactic(auto)]
 
 use machine::{Caches, two_levels};
-use numeral::{BadNumber, block_number};
+use numeral::block_number;
 use profiling::{Access, Profile};
 use std::io::{BufRead, BufReader};
 use std::{fmt, io};
@@ -26,14 +26,6 @@ impl fmt::Display for Row {
             Some(left) => write!(f, "{number}\t{block}\t{level}\t{left}"),
             None => write!(f, "{number}\t{block}\t{level}\t-"),
         }
-    }
-}
-
-fn reason(why: BadNumber) -> &'static str {
-    match why {
-        BadNumber::Empty => "there is no block number",
-        BadNumber::NotDecimal => "not a decimal number without leading zeros",
-        BadNumber::TooLarge => "block numbers end at 65535",
     }
 }
 
@@ -68,7 +60,6 @@ fn replay(rt: &HostRuntime, profile: &mut Profile<Caches>) -> io::Result<u64> {
             }
             Err(why) => {
                 bad = bad.saturating_add(1);
-                let why = reason(why);
                 println!(rt; "line {place}: {why}")?;
             }
         }

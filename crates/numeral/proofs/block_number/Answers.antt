@@ -2,5 +2,5 @@
 use Rattle.numeral.proofs.Decimals.{reads_decimals}
 use Rattle.numeral.proofs.block_number.Goals as goal
 
-pub returns : goal.returns
-returns c = record { value = c.read.ensures; law = reads_decimals _ c.read.result c.read.ensures }
+pub returns-clause-law : goal.returns-clause-law
+returns-clause-law c = reads_decimals _ c.read.result c.read.ensures
