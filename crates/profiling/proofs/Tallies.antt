@@ -1,60 +1,43 @@
 -- The counts are those of the accesses.
-use Rattle.std.proofs.Common.{◌≡◌, ℕ, zero, suc, ◌+◌, ◌<◌, ◌≤◌, min, Bool, true, false, cond, eqb, ltb, List, [], ◌∷◌, length, get_or, set, sym, refl, ap, ◌∙◌, arith, length-set, get_or-set_other, get_or-set_same, lt-ltb, eq-eqb, ne_eqb}
-use native.Mathlib.Decide.{ℕ_discrete}
-use Rattle.tier.specs.Meaning.{TierMeaning}
-use Rattle.profiling.specs.Access.{accessed, answer, counted}
+use Rattle.std.proofs.Common.{◌≡◌, ℕ, zero, suc, ◌+◌, ◌<◌, ◌≤◌, min, Bool, true, false, cond, eqb, ltb, List, [], ◌∷◌, length, get_or, set, sym, refl, ap, ◌∙◌, arith, is_some, Some, None, Option, subst, nat_eq, length-set}
+use Rattle.std.proofs.lemmas.Grind.{common_steps}
+use Rattle.std.proofs.lemmas.Bool.Decides.{nat_tests}
+use Rattle.std.specs.Option.{option_eq}
+use Rattle.device.specs.Device.{after}
+use Rattle.tier.specs.Meaning.{TierMeaning, clear, Lawful}
+use Rattle.profiling.specs.Access.{accessed, answer, place_of, counted, count_of, counted_at, count_at}
 use Rattle.profiling.specs.Tallies.{tallied, served_by, CountsAll}
+use Rattle.profiling.proofs.Hits.{told}
 
 abbrev most : ℕ
 most = 18446744073709551615
 
--- one access, by whether its level is one of the five
-counted-length : (counts : List ℕ) (at : ℕ) → length (counted counts at) ≡ length counts
-counted-length counts at = go (ltb at 5)
-  where
-    go : (b : Bool) → length (cond b (set counts at (min (get_or counts at 0 + 1) most)) counts) ≡ length counts
-    go true = length-set counts at _
-    go false = refl
+-- one access
+counted-length : (counts : List ℕ) (at : Option ℕ) → length (counted counts at) ≡ length counts
+counted-length counts None = grind (arith, common_steps)
+counted-length counts (Some a) = grind (arith, common_steps)
 
-counted-at : (counts : List ℕ) (at level : ℕ) → length counts ≡ 5 → level < 5 → get_or counts level 0 ≤ most
-    → get_or (counted counts at) level 0 ≡ min (get_or counts level 0 + cond (eqb at level) 1 0) most
-counted-at counts at level five lt fits = elim (ℕ_discrete at level) [
-  | yes q ↦ ap (λ b. get_or (cond b (set counts at (min (get_or counts at 0 + 1) most)) counts) level 0) (lt-ltb at 5 (omega arith))
-      ∙ ap (λ i. get_or (set counts i (min (get_or counts i 0 + 1) most)) level 0) q
-      ∙ get_or-set_same counts level (min (get_or counts level 0 + 1) most) 0 (omega arith)
-      ∙ sym (ap (λ b. min (get_or counts level 0 + cond b 1 0) most) (eq-eqb at level q))
-  | no q ↦ other (ltb at 5) (λ z. q (sym z)) ∙ sym (ap (λ b. min (get_or counts level 0 + cond b 1 0) most) (ne_eqb at level q))
-]
-  where
-    other : (b : Bool) → (level ≡ at → ⊥) → get_or (cond b (set counts at (min (get_or counts at 0 + 1) most)) counts) level 0 ≡ min (get_or counts level 0 + 0) most
-    other true ne = get_or-set_other counts at level _ 0 ne ∙ omega arith
-    other false ne = omega arith
+counted-at : (counts : List ℕ) (at level : Option ℕ) → length counts ≡ 5 → is_some (place_of at) ≡ true → count_of counts level ≤ most
+    → count_of (counted counts at) level ≡ min (count_of counts level + cond (option_eq nat_eq at level) 1 0) most
+counted-at counts None level five placed fits = grind (arith, common_steps)
+counted-at counts (Some a) level five placed fits = grind (arith, common_steps)
 
-counts_on : (ns : List ℕ) (m : TierMeaning) (counts : List ℕ) (level : ℕ) → length counts ≡ 5 → level < 5 → get_or counts level 0 ≤ most
-    → get_or (tallied m counts ns) level 0 ≡ min (get_or counts level 0 + served_by m level ns) most
-counts_on [] m counts level five lt fits = omega arith
-counts_on (n ∷ ns) m counts level five lt fits =
-    let at = (answer m n).level in
-    let here = counted-at counts at level five lt fits in
-    let rest = counts_on ns (accessed m n) (counted counts at) level (counted-length counts at ∙ five) lt (omega arith) in
+counts_on : (ns : List ℕ) (m : TierMeaning) → Lawful m → (counts : List ℕ) (level : Option ℕ) → length counts ≡ 5 → count_of counts level ≤ most
+    → count_of (tallied m counts ns) level ≡ min (count_of counts level + served_by m level ns) most
+counts_on [] m ok counts level five fits = omega arith
+counts_on (n ∷ ns) m ok counts level five fits =
+    let t = told m ok n in
+    let here = counted-at counts (answer m n).level level five t.placed fits in
+    let rest = counts_on ns (accessed m n) t.lawful (counted counts (answer m n).level) level (counted-length counts (answer m n).level ∙ five) (omega arith) in
     rest ∙ omega (arith, here)
 
 -- five counts of nothing
 abbrev zeros : List ℕ
 zeros = 0 ∷ 0 ∷ 0 ∷ 0 ∷ 0 ∷ []
 
-zeros-at : (i : ℕ) → get_or zeros i 0 ≡ 0
-zeros-at zero = refl
-zeros-at (suc zero) = refl
-zeros-at (suc (suc zero)) = refl
-zeros-at (suc (suc (suc zero))) = refl
-zeros-at (suc (suc (suc (suc zero)))) = refl
-zeros-at (suc (suc (suc (suc (suc i))))) = refl
+zeros-at : (level : Option ℕ) → count_of zeros level ≡ 0
+zeros-at None = refl
+zeros-at (Some i) = grind (arith, common_steps)
 
-pub counts_all : (m : TierMeaning) (counts : List ℕ) → counts ≡ zeros → CountsAll m counts
-counts_all m counts e ns level lt =
-    let none : get_or counts level 0 ≡ 0 = ap (λ xs. get_or xs level 0) e ∙ zeros-at level in
-    ap (λ b. cond b (get_or (tallied m counts ns) level 0) 0) (lt-ltb level 5 lt)
-    ∙ counts_on ns m counts level (ap length e) lt (omega arith)
-    ∙ ap (λ k. min (k + served_by m level ns) most) none
-    ∙ omega arith
+pub counts_all : (m x : TierMeaning) → Lawful m → x ≡ after m clear → (counts : List ℕ) → counts ≡ zeros → CountsAll x counts
+counts_all m x ok e counts z ns level = grind (arith, zeros-at level, counts_on ns x (subst Lawful (sym e) (λ cs. ok (clear ∷ cs))) counts level (ap length z))

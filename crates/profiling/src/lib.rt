@@ -3,20 +3,21 @@
 
 ghost use Rattle.std.specs.Prelude.{◌≡◌, ℕ, false, List, [], ◌∷◌};
 ghost use Rattle.device.specs.Device.{after};
-ghost use Rattle.parts.specs.Marks.{mark_of};
-ghost use Rattle.tier.specs.Meaning.{clear, put, depth_of, put_answer};
-ghost use Rattle.profiling.specs.Access.{given, raised, raised_out, accessed, answer, counted, count_of};
+ghost use Rattle.tier.specs.Meaning.{clear, depth_of};
+ghost use Rattle.profiling.specs.Access.{accessed, answer, place_of, counted, count_of};
 ghost use Rattle.profiling.specs.Resident.{HitsTold};
 ghost use Rattle.profiling.specs.Tallies.{CountsAll};
 
+use moves::{bring_up, put_block};
+use parts::line::Line;
 use parts::mark::Mark;
 use tier::Tier;
 
 /// How an access was served.
 #[derive(Clone, Copy, PartialEq, Eq, Debug)]
 pub struct Access {
-    /// The cache level that had the block, 0 for a miss.
-    pub level: u8,
+    /// The cache level that had the block; none for a miss.
+    pub level: Option<u8>,
     /// The block that left the caches to make room.
     pub left: Option<u16>,
 }
@@ -29,27 +30,14 @@ pub struct Profile<T> {
     counts: [u64; 5],
 }
 
-// Puts a block that is not held, and tells which block left.
-fn fill<T: Tier>(tier: &mut T, block: u16, mark: Mark, stamp: u32) -> Option<u16>
-    ensures answer { result ≡ given (put_answer (T.Tier.meaning tier.old) block mark stamp) }
-    ensures next { T.Tier.meaning tier.new ≡ after (T.Tier.meaning tier.old) (put block mark stamp) }
+// The place of a level's count: the misses at 0, and none beyond level 4.
+fn place(level: Option<u8>) -> Option<usize>
+    ensures { result ≡ place_of level }
 {
-    match tier.put(block, mark, stamp) {
-        Ok(Some(out)) => Some(out.block),
-        Ok(None) => None,
-        Err(_) => None,
-    }
-}
-
-// Takes a block that is held below level 1, and puts it again with its mark and stamp.
-fn raise<T: Tier>(tier: &mut T, block: u16, mark: u8, stamp: u32) -> Option<u16>
-    ensures answer { result ≡ raised_out (T.Tier.meaning tier.old) block (mark_of mark) stamp }
-    ensures next { T.Tier.meaning tier.new ≡ raised (T.Tier.meaning tier.old) block (mark_of mark) stamp }
-{
-    let _ = tier.take(block);
-    match Mark::from_number(mark) {
-        Some(mark) => fill(tier, block, mark, stamp),
-        None => None,
+    match level {
+        None => Some(0),
+        Some(level @ 1..=4) => Some(usize::from(level)),
+        Some(_) => None,
     }
 }
 
@@ -58,22 +46,21 @@ fn serve<T: Tier>(tier: &mut T, block: u16) -> Access
     ensures answer { result ≡ answer (T.Tier.meaning tier.old) block }
     ensures next { T.Tier.meaning tier.new ≡ accessed (T.Tier.meaning tier.old) block }
 {
-    match tier.look(block) {
-        None => {
-            let left = fill(tier, block, Mark::Shared, 0);
-            Access { level: 0, left }
-        }
-        Some((mark, stamp, level)) => {
-            if level == 1 {
-                let _ = tier.touch(block);
-                return Access {
-                    level: 1,
-                    left: None,
-                };
-            }
-            let left = raise(tier, block, mark, stamp);
-            Access { level, left }
-        }
+    let held = tier.look(block);
+    let out = match held {
+        None => put_block(
+            tier,
+            Line {
+                block,
+                mark: Mark::Shared,
+                stamp: 0,
+            },
+        ),
+        Some(held) => bring_up(tier, block, held),
+    };
+    Access {
+        level: held.map(|(_, _, level)| level),
+        left: out.map(|line| line.block),
     }
 }
 
@@ -107,9 +94,8 @@ impl<T: Tier> Profile<T> {
         ensures counts { self.new.counts ≡ counted self.old.counts result.level }
     {
         let access = serve(&mut self.tier, block);
-        let level = usize::from(access.level);
-        if level < 5 {
-            self.counts[level] = self.counts[level].saturating_add(1);
+        if let Some(place) = place(access.level) {
+            self.counts[place] = self.counts[place].saturating_add(1);
         }
         access
     }
@@ -121,14 +107,13 @@ impl<T: Tier> Profile<T> {
         self.tier.depth()
     }
 
-    /// How many accesses a level served; the misses at level 0, and none beyond level 4.
-    pub fn served(&self, level: u8) -> u64
+    /// How many accesses a level served, or how many were misses; at level 0 and beyond level 4 there are none.
+    pub fn served(&self, level: Option<u8>) -> u64
         ensures { result ≡ count_of self.now.counts level }
     {
-        if level < 5 {
-            self.counts[usize::from(level)]
-        } else {
-            0
+        match place(level) {
+            Some(place) => self.counts[place],
+            None => 0,
         }
     }
 }
