@@ -27,12 +27,20 @@ pub fn retire_owned<M: Memory>(mut memory: M, block: u16, stamp: u32) -> M
     memory
 }
 
+// The same of the memory over a table, in words of the table: so the check finds by itself what the loan below comes to.
+fn retire_flat(flat: &mut Flat<'_>, block: u16, stamp: u32)
+    ensures cells { flat.new.table.now ≡ retired flat.old.table.now block stamp }
+    ensures named { flat.new.table.ghost_name ≡ flat.old.table.ghost_name }
+{
+    retire(flat, block, stamp);
+}
+
 /// Retires a block of a table. A table that is refused stays as it is.
 pub fn retire_in_table(table: &mut [Cell], block: u16, stamp: u32)
     ensures { table.new ≡ retired table.old block stamp }
 {
     let mut flat = Flat::over(table);
-    retire(&mut flat, block, stamp);
+    retire_flat(&mut flat, block, stamp);
 }
 
 // The window is moved into a call and out of it, and the check knows what a lent table ends as only where the lending call's result
