@@ -1,6 +1,7 @@
 -- The laws of a memory over a table.
 use Rattle.std.specs.Prelude.{◌≡◌, ℕ, ◌<◌, ◌≤◌, Bool, true, false, cond, List, [], ◌∷◌, length, get_or, ◌≢◌, nat_lt, slice_index_or, slice_set, refl}
 use Rattle.std.proofs.Common.{sym, ap, ◌∙◌, arith, length-set, get_or-set_same, get_or-set_other, ltb-false, lt-ltb, le-ltb}
+use Rattle.std.proofs.lemmas.Bool.Decides.{nat_tests}
 use Rattle.device.specs.Device.{after}
 use Rattle.device.specs.Laws.{device-after, device_always}
 use Rattle.memory.specs.declared.cell.Cell.{Cell}
@@ -9,31 +10,23 @@ use Rattle.memory.specs.Flat.{flat_size, no_cell, write, flat_step, flat_view, f
 
 -- the size, by the number of cells
 size-within : (k : ℕ) → cond (nat_lt 4096 k) 0 k ≤ k
-size-within k = elim (nat_lt 4096 k) as (λ b. cond b 0 k ≤ k) [ true ↦ omega arith | false ↦ omega arith ]
+size-within k = grind (arith, nat_tests)
 
 size-bounded : (k : ℕ) → cond (nat_lt 4096 k) 0 k ≤ 65536
-size-bounded k = go (nat_lt 4096 k) refl
-  where
-    go : (b : Bool) → nat_lt 4096 k ≡ b → cond b 0 k ≤ 65536
-    go true e = omega arith
-    go false e = omega (arith, ltb-false 4096 k e)
+size-bounded k = grind (arith, nat_tests)
 
 -- one write
 write-length : (t : List Cell) (n : ℕ) (x : Cell) → length (write t n x) ≡ length t
-write-length t n x =
-    elim (nat_lt n (flat_size t)) as (λ b. length (cond b (slice_set t n x) t) ≡ length t) [ true ↦ length-set t n x | false ↦ refl ]
+write-length t n x = grind (arith, nat_tests, length-set)
 
 write_same : (t : List Cell) (n : ℕ) (x : Cell) → n < flat_size t → slice_index_or (write t n x) n no_cell ≡ x
-write_same t n x h =
-    ap (λ b. get_or (cond b (slice_set t n x) t) n no_cell) (lt-ltb n (flat_size t) h)
-    ∙ get_or-set_same t n x no_cell (omega (arith, size-within (length t)))
+write_same t n x h = grind (arith, nat_tests, get_or-set_same, size-within)
 
 write-other : (t : List Cell) (n k : ℕ) (x : Cell) → (k ≢ n) → slice_index_or (write t n x) k no_cell ≡ slice_index_or t k no_cell
-write-other t n k x ne =
-    elim (nat_lt n (flat_size t)) as (λ b. slice_index_or (cond b (slice_set t n x) t) k no_cell ≡ slice_index_or t k no_cell) [ true ↦ get_or-set_other t n k x no_cell ne | false ↦ refl ]
+write-other t n k x ne = grind (arith, nat_tests, get_or-set_other)
 
 write-refused : (t : List Cell) (n : ℕ) (x : Cell) → flat_size t ≤ n → write t n x ≡ t
-write-refused t n x h = ap (λ b. cond b (slice_set t n x) t) (le-ltb n (flat_size t) h)
+write-refused t n x h = grind (arith, nat_tests)
 
 -- one call
 step-length : (t : List Cell) (c : MemoryCall) → length (flat_step t c) ≡ length t
