@@ -1,6 +1,7 @@
 -- The laws of a window, from those of the memory below.
 use Rattle.std.specs.Prelude.{◌≡◌, ℕ, ◌+◌, ◌<◌, ◌≤◌, true, false, cond, [], ◌∷◌, map, nat_lt, refl}
 use Rattle.std.proofs.Common.{sym, ap, ◌∙◌, arith, lt-ltb, le-ltb}
+use Rattle.std.proofs.lemmas.Bool.Decides.{nat_tests}
 use Rattle.device.specs.Device.{after}
 use Rattle.device.specs.Laws.{device-after, device_always}
 use Rattle.memory.specs.Meaning.{MemoryMeaning, MemoryCall, Lent, lent_of, cell_of, stamp_of, block_of, on_block, MemoryLaws, Lawful}
@@ -13,22 +14,20 @@ module _ (start length : ℕ) where
   below m c = after m (on_block (start + block_of c) c)
 
   window-stays : (m : MemoryMeaning) (c : MemoryCall) → window_size start length (window_step start length m c) ≡ window_size start length m
-  window-stays m c =
-      elim (nat_lt (block_of c) (window_size start length m)) as (λ b. window_size start length (cond b (below m c) m) ≡ window_size start length m) [ true ↦ refl | false ↦ refl ]
+  window-stays m c = grind (arith, nat_tests)
 
   window-good : (m : MemoryMeaning) (c : MemoryCall) → Lawful m → Lawful (window_step start length m c)
   window-good m c h =
       elim (nat_lt (block_of c) (window_size start length m)) as (λ b. Lawful (cond b (below m c) m)) [ true ↦ (λ cs. h (on_block (start + block_of c) c ∷ cs)) | false ↦ h ]
 
   window_does : (m : MemoryMeaning) (c : MemoryCall) → block_of c < window_size start length m → window_step start length m c ≡ below m c
-  window_does m c h = ap (λ b. cond b (below m c) m) (lt-ltb _ _ h)
+  window_does m c h = grind (arith, nat_tests)
 
   window-refused : (m : MemoryMeaning) (c : MemoryCall) → window_size start length m ≤ block_of c → window_step start length m c ≡ m
-  window-refused m c h = ap (λ b. cond b (below m c) m) (le-ltb _ _ h)
+  window-refused m c h = grind (arith, nat_tests)
 
   window-loans : (m : MemoryMeaning) (c : MemoryCall) → MemoryLaws m → map (λ (t : Lent). t.name) (lent_of (window_step start length m c)) ≡ map (λ (t : Lent). t.name) (lent_of m)
-  window-loans m c laws =
-      elim (nat_lt (block_of c) (window_size start length m)) as (λ b. map (λ (t : Lent). t.name) (lent_of (cond b (below m c) m)) ≡ map (λ (t : Lent). t.name) (lent_of m)) [ true ↦ laws.loans (on_block (start + block_of c) c) | false ↦ refl ]
+  window-loans m c laws = let same = laws.loans (on_block (start + block_of c) c) in grind (arith, nat_tests)
 
   window-laws : (m : MemoryMeaning) → Lawful m → MemoryLaws (window start length m)
   window-laws m h = record {
