@@ -2,6 +2,8 @@
 use Rattle.std.specs.Prelude.{◌≡◌, refl, List, [], ◌∷◌, ◌++◌, map, Bool, true, false, cond, ℕ, ◌/◌, ◌≤◌, ◌<◌, ltb}
 use Rattle.std.proofs.Common.{sym, ap, ◌∙◌, true≢false, arith, eqb-true, lt-ltb, le-ltb}
 use Rattle.std.proofs.lemmas.Bool.{eqb-false}
+use Rattle.std.proofs.lemmas.Bool.Decides.{nat_tests}
+use Rattle.std.proofs.lemmas.List.{map-append}
 use Rattle.device.specs.Device.{device}
 use Rattle.device.specs.Laws.{device-after, device_always}
 use Rattle.memory.specs.Meaning.{MemoryMeaning, MemoryCall, Lent, size_of, lent_of, stamp_of, block_of, on_block, result, MemoryLaws, Lawful}
@@ -13,10 +15,6 @@ Good h = Lawful h.even × Lawful h.odd
 
 abbrev names : List Lent → List ℕ
 names = map (λ (t : Lent). t.name)
-
-names-append : (xs ys : List Lent) → names (xs ++ ys) ≡ names xs ++ names ys
-names-append [] ys = refl
-names-append (x ∷ xs) ys = ap (λ ns. x.name ∷ ns) (names-append xs ys)
 
 abbrev names_of : Halves → List ℕ
 names_of h = names (lent_of h.even) ++ names (lent_of h.odd)
@@ -46,21 +44,14 @@ half_others false false h c k j good le lo ne = call_others h.odd (good.1 []) c 
 
 -- two blocks of one half that differ do so there too
 half_apart : (n k : ℕ) → (k ≡ n → ⊥) → is_even n ≡ is_even k → k / 2 ≡ n / 2 → ⊥
-half_apart n k ne e same = go (is_even n) (is_even k) refl refl e
-  where
-    go : (b d : Bool) → is_even n ≡ b → is_even k ≡ d → b ≡ d → ⊥
-    go true true p q r = ne (omega (arith, eqb-true _ _ p, eqb-true _ _ q))
-    go true false p q r = true≢false r
-    go false true p q r = true≢false (sym r)
-    go false false p q r = ne (omega (arith, eqb-false _ _ p, eqb-false _ _ q))
+half_apart n k ne e same = ne (grind (arith, nat_tests))
 
 -- a call on the two
 abbrev on_half : Halves → MemoryCall → Halves
 on_half h c = half_step (is_even (block_of c)) h (on_block (block_of c / 2) c)
 
 interleaved-stays : (h : Halves) (c : MemoryCall) → interleaved_size (interleaved_step h c) ≡ interleaved_size h
-interleaved-stays h c =
-    elim (ltb (block_of c) (interleaved_size h)) as (λ b. interleaved_size (cond b (on_half h c) h) ≡ interleaved_size h) [ true ↦ half_size (is_even (block_of c)) h (on_block (block_of c / 2) c) | false ↦ refl ]
+interleaved-stays h c = let stays = half_size (is_even (block_of c)) h (on_block (block_of c / 2) c) in grind (arith, nat_tests)
 
 interleaved-good : (h : Halves) (c : MemoryCall) → Good h → Good (interleaved_step h c)
 interleaved-good h c good =
@@ -71,10 +62,10 @@ interleaved-loans h c good =
     elim (ltb (block_of c) (interleaved_size h)) as (λ b. names_of (cond b (on_half h c) h) ≡ names_of h) [ true ↦ half_loans (is_even (block_of c)) h (on_block (block_of c / 2) c) good | false ↦ refl ]
 
 interleaved_does : (h : Halves) (c : MemoryCall) → block_of c < interleaved_size h → interleaved_step h c ≡ on_half h c
-interleaved_does h c lt = ap (λ b. cond b (on_half h c) h) (lt-ltb _ _ lt)
+interleaved_does h c lt = grind (arith, nat_tests)
 
 interleaved-refused : (h : Halves) (c : MemoryCall) → interleaved_size h ≤ block_of c → interleaved_step h c ≡ h
-interleaved-refused h c le = ap (λ b. cond b (on_half h c) h) (le-ltb _ _ le)
+interleaved-refused h c le = grind (arith, nat_tests)
 
 interleaved-laws : (h : Halves) → Good h → MemoryLaws (device interleaved_size interleaved_view interleaved_step h)
 interleaved-laws h good = record {
@@ -89,9 +80,9 @@ interleaved-laws h good = record {
       sym (device-after interleaved_size interleaved_view interleaved_step interleaved-stays h c)
       ∙ ap (device interleaved_size interleaved_view interleaved_step) (interleaved-refused h c le);
   loans = λ c.
-      names-append (lent_of (interleaved_step h c).even) (lent_of (interleaved_step h c).odd)
+      map-append _ (lent_of (interleaved_step h c).even) (lent_of (interleaved_step h c).odd)
       ∙ interleaved-loans h c good
-      ∙ sym (names-append (lent_of h.even) (lent_of h.odd));
+      ∙ sym (map-append _ (lent_of h.even) (lent_of h.odd));
 }
 
 pub interleaved-lawful : (even odd : MemoryMeaning) → Lawful even → Lawful odd → Lawful (interleaved even odd)

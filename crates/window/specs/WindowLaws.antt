@@ -20,9 +20,6 @@ module _ (start length : ℕ) where
   window-good m c h =
       elim (nat_lt (block_of c) (window_size start length m)) as (λ b. Lawful (cond b (below m c) m)) [ true ↦ (λ cs. h (on_block (start + block_of c) c ∷ cs)) | false ↦ h ]
 
-  window_does : (m : MemoryMeaning) (c : MemoryCall) → block_of c < window_size start length m → window_step start length m c ≡ below m c
-  window_does m c h = grind (arith, nat_tests)
-
   window-refused : (m : MemoryMeaning) (c : MemoryCall) → window_size start length m ≤ block_of c → window_step start length m c ≡ m
   window-refused m c h = grind (arith, nat_tests)
 
@@ -32,12 +29,8 @@ module _ (start length : ℕ) where
   window-laws : (m : MemoryMeaning) → Lawful m → MemoryLaws (window start length m)
   window-laws m h = record {
     bounded = omega (arith, (h []).bounded);
-    named = λ c lt.
-        ap (λ (v : MemoryMeaning). stamp_of (cell_of v (start + block_of c))) (window_does m c lt)
-        ∙ call_named m (h []) c (start + block_of c) (omega arith);
-    others = λ c k lt ne.
-        ap (λ (v : MemoryMeaning). stamp_of (cell_of v (start + k))) (window_does m c lt)
-        ∙ call_others m (h []) c (start + block_of c) (start + k) (omega arith) (λ e. ne (omega arith));
+    named = λ c lt. let named = call_named m (h []) c (start + block_of c) (omega arith) in grind (arith, nat_tests);
+    others = λ c k lt ne. let same = call_others m (h []) c (start + block_of c) (start + k) (omega arith) (λ e. ne (omega arith)) in grind (arith, nat_tests);
     refused = λ c le.
         sym (device-after (window_size start length) (window_view start) (window_step start length) window-stays m c)
         ∙ ap (window start length) (window-refused m c le);
