@@ -1,12 +1,20 @@
 //! Two memories in turn.
 #![tactic(auto)]
 
-ghost use Rattle.std.specs.Prelude.{◌≡◌};
-ghost use Rattle.interleaved.specs.Interleaved.{interleaved};
+ghost use Rattle.std.specs.Prelude.{◌≡◌, ◌/◌, if◌then◌else◌, Ok, Err, ltb};
+ghost use Rattle.memory.specs.declared.refusal.Refusal.TheVariants.{NoSuchBlock};
+ghost use Rattle.interleaved.specs.Interleaved.{interleaved_size, is_even, interleaved};
 ghost use Rattle.interleaved.specs.InterleavedLaws.{interleaved-lawful};
 
 use memory::Memory;
 use memory::refusal::Refusal;
+
+// The half that a block is in, and the block's number there.
+#[derive(Clone, Copy)]
+enum Half {
+    Even(u16),
+    Odd(u16),
+}
 
 /// Even block n is block n/2 of `even`, and odd block n is block (n-1)/2 of `odd`.
 #[derive(Drop)]
@@ -31,6 +39,19 @@ impl<E: Memory, O: Memory> Interleaved<E, O> {
         let Interleaved { even, odd } = self;
         (even, odd)
     }
+
+    /// The half that a block is in, and its number there.
+    fn half(&self, block: u16) -> Result<Half, Refusal>
+        ensures { result ≡ (if ltb block (interleaved_size (record { even = E.Memory.meaning self.now.even; odd = O.Memory.meaning self.now.odd })) then Ok (if is_even block then Half.Even (block / 2) else Half.Odd (block / 2)) else Err NoSuchBlock) }
+    {
+        if u32::from(block) >= self.size() {
+            Err(Refusal::NoSuchBlock)
+        } else if block % 2 == 0 {
+            Ok(Half::Even(block / 2))
+        } else {
+            Ok(Half::Odd(block / 2))
+        }
+    }
 }
 
 impl<E: Memory, O: Memory> Memory for Interleaved<E, O> {
@@ -44,32 +65,23 @@ impl<E: Memory, O: Memory> Memory for Interleaved<E, O> {
     }
 
     fn ask(&self, block: u16) -> Result<Option<u32>, Refusal> {
-        if (block as u32) >= self.size() {
-            Err(Refusal::NoSuchBlock)
-        } else if block % 2 == 0 {
-            self.even.ask(block / 2)
-        } else {
-            self.odd.ask(block / 2)
+        match self.half(block)? {
+            Half::Even(found) => self.even.ask(found),
+            Half::Odd(found) => self.odd.ask(found),
         }
     }
 
     fn store(&mut self, block: u16, stamp: u32) -> Result<(), Refusal> {
-        if (block as u32) >= self.size() {
-            Err(Refusal::NoSuchBlock)
-        } else if block % 2 == 0 {
-            self.even.store(block / 2, stamp)
-        } else {
-            self.odd.store(block / 2, stamp)
+        match self.half(block)? {
+            Half::Even(found) => self.even.store(found, stamp),
+            Half::Odd(found) => self.odd.store(found, stamp),
         }
     }
 
     fn stale(&mut self, block: u16) -> Result<(), Refusal> {
-        if (block as u32) >= self.size() {
-            Err(Refusal::NoSuchBlock)
-        } else if block % 2 == 0 {
-            self.even.stale(block / 2)
-        } else {
-            self.odd.stale(block / 2)
+        match self.half(block)? {
+            Half::Even(found) => self.even.stale(found),
+            Half::Odd(found) => self.odd.stale(found),
         }
     }
 }

@@ -1,22 +1,17 @@
 -- The table that a memory was lent, once one of its blocks was retired.
-use Rattle.std.proofs.Common.{◌≡◌, ℕ, ◌+◌, ◌<◌, List, [], ◌∷◌, length, get_or, set, refl, ap, arith, length-set, get_or-set_same, set-set}
+use Rattle.std.proofs.Common.{◌≡◌, ℕ, ◌+◌, List, [], ◌∷◌, length, refl, ap, arith, length-set, get_or-set_same, set-set}
 use Rattle.std.proofs.lemmas.Bool.Decides.{nat_tests}
 use Rattle.device.specs.Device.{after}
 use Rattle.memory.specs.declared.cell.Cell.{Cell}
-use Rattle.memory.specs.declared.cell.State.TheVariants.{Valid, Stale}
-use Rattle.memory.specs.Meaning.{store, stale, lent_of}
-use Rattle.memory.specs.Flat.{no_cell, flat_step, flat}
+use Rattle.memory.specs.Meaning.{MemoryMeaning, store, stale, lent_of}
+use Rattle.memory.specs.Flat.{flat_step, flat}
 use Rattle.memory.specs.FlatLaws.{lent_same}
 use Rattle.window.specs.Window.{window}
 use Rattle.lending.specs.Retired.{retired, retired_in}
 
 steps-retired : (t : List Cell) (n s : ℕ) → flat_step (flat_step t (store n s)) (stale n) ≡ retired t n s
 steps-retired t n s =
-    let x : Cell = record { state = Valid; stamp = s } in
-    let sized = length-set t n x in
-    let again = set-set t n x (record { state = Stale; stamp = s }) in
-    let same : n < length t → get_or (set t n x) n no_cell ≡ x = get_or-set_same t n x no_cell in
-    grind (arith, nat_tests)
+    grind (arith, nat_tests, length-set, set-set, get_or-set_same)
 
 memory-lent : (a : ℕ) (t : List Cell) (n s : ℕ) → lent_of (after (after (flat a t) (store n s)) (stale n)) ≡ record { name = a; cells = retired t n s } ∷ []
 memory-lent a t n s = ap (λ (u : List Cell). record { name = a; cells = u } ∷ []) (steps-retired t n s)
@@ -30,7 +25,9 @@ pub memory-back : (a b : ℕ) (t u : List Cell) (n s : ℕ)
     → (b ≡ a) × (u ≡ retired t n s)
 memory-back a b t u n s e = lent_same _ _ _ _ e refl (memory-lent a t n s)
 
-pub window-back : (start length from upto a b : ℕ) (t u : List Cell) (n s : ℕ)
-    → window from upto (flat b u) ≡ after (after (window start length (flat a t)) (store n s)) (stale n)
+pub window-back : (start length from upto a b : ℕ) (t u : List Cell) (n s : ℕ) (m : MemoryMeaning)
+    → m ≡ window start length (flat a t)
+    → window from upto (flat b u) ≡ after (after m (store n s)) (stale n)
     → (b ≡ a) × (u ≡ retired_in start length t n s)
-window-back start length from upto a b t u n s e = lent_same _ _ _ _ e refl (window-lent start length a t n s)
+window-back start length from upto a b t u n s m made shown =
+    lent_same _ _ _ _ shown refl (rw made (window-lent start length a t n s))

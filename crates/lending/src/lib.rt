@@ -8,7 +8,7 @@ ghost use Rattle.lending.specs.Retired.{retired, retired_in};
 
 use memory::Memory;
 use memory::cell::Cell;
-use memory::flat::{Flat, RefusedTable};
+use memory::flat::Flat;
 use window::Window;
 
 /// Stores a last stamp in a block of any memory, and makes the block stale.
@@ -20,42 +20,31 @@ pub fn retire<M: Memory>(memory: &mut M, block: u16, stamp: u32)
 }
 
 /// The same, of a memory that is moved in and out.
-pub fn retire_owned<M: Memory>(memory: M, block: u16, stamp: u32) -> M
+pub fn retire_owned<M: Memory>(mut memory: M, block: u16, stamp: u32) -> M
     ensures { M.Memory.meaning result ≡ after (after (M.Memory.meaning memory) (store block stamp)) (stale block) }
 {
-    let mut memory = memory;
     retire(&mut memory, block, stamp);
     memory
 }
 
-/// The memory over a table: one with no block, if the table is refused.
-fn over<'a>(table: &'a mut [Cell]) -> Flat<'a>
-    ensures { result.table ≡ table.entry }
+// The same of the memory over a table, in words of the table: so the check finds by itself what the loan below comes to.
+fn retire_flat(flat: &mut Flat<'_>, block: u16, stamp: u32)
+    ensures cells { flat.new.table.now ≡ retired flat.old.table.now block stamp }
+    ensures named { flat.new.table.ghost_name ≡ flat.old.table.ghost_name }
 {
-    match Flat::new(table) {
-        Ok(memory) => memory,
-        Err(RefusedTable { refusal: _, memory }) => memory,
-    }
-}
-
-/// Retires a block of a memory over the table, and gives the table back.
-fn lend_to_memory<'a>(table: &'a mut [Cell], block: u16, stamp: u32) -> &'a mut [Cell]
-    ensures value { result.now ≡ retired table.old block stamp }
-    ensures named { result.ghost_name ≡ table.entry.ghost_name }
-{
-    let mut flat = over(table);
-    retire(&mut flat, block, stamp);
-    flat.into_table()
+    retire(flat, block, stamp);
 }
 
 /// Retires a block of a table. A table that is refused stays as it is.
 pub fn retire_in_table(table: &mut [Cell], block: u16, stamp: u32)
     ensures { table.new ≡ retired table.old block stamp }
 {
-    let _ = lend_to_memory(table, block, stamp);
+    let mut flat = Flat::over(table);
+    retire_flat(&mut flat, block, stamp);
 }
 
-/// Retires a block of a window over such a memory, which is moved away and back.
+// The window is moved into a call and out of it, and the check knows what a lent table ends as only where the lending call's result
+// stays in its place: so this function gives the table back.
 fn lend_to_window<'a>(
     table: &'a mut [Cell],
     start: u32,
@@ -66,7 +55,7 @@ fn lend_to_window<'a>(
     ensures value { result.now ≡ retired_in start length table.old block stamp }
     ensures named { result.ghost_name ≡ table.entry.ghost_name }
 {
-    let window = Window::new(over(table), start, length);
+    let window = Window::new(Flat::over(table), start, length);
     let window = retire_owned(window, block, stamp);
     window.into_below().into_table()
 }

@@ -1,6 +1,6 @@
 //! A memory over a table of cells that a caller lends.
-ghost use Rattle.std.specs.Prelude.{◌≡◌, is_ok, MatchResult};
-ghost use Rattle.memory.specs.declared.refusal.Refusal.TheVariants.{BadTable};
+ghost use Rattle.std.specs.Prelude.{◌≡◌, is_ok, MatchResult, if◌then◌else◌, Ok, Err, nat_lt};
+ghost use Rattle.memory.specs.declared.refusal.Refusal.TheVariants.{BadTable, NoSuchBlock};
 ghost use Rattle.memory.specs.Flat.{fits, flat_size, flat};
 ghost use Rattle.memory.specs.FlatLaws.{flat-lawful};
 
@@ -30,9 +30,9 @@ impl<'a> Flat<'a> {
         ensures fits { is_ok result ≡ fits table.old }
         ensures holds { MatchResult result (λ f. f.table ≡ table.entry) (λ e. (e.refusal ≡ BadTable) × (e.memory.table ≡ table.entry) × (flat_size table.old ≡ 0)) }
     {
-        let cells = table.len();
+        let fits = (1..=MOST_CELLS).contains(&table.len());
         let memory = Flat::over(table);
-        if cells >= 1 && cells <= MOST_CELLS {
+        if fits {
             Ok(memory)
         } else {
             Err(RefusedTable {
@@ -46,8 +46,7 @@ impl<'a> Flat<'a> {
     pub fn over(table: &'a mut [Cell]) -> Flat<'a>
         ensures { result.table ≡ table.entry }
     {
-        let memory = Flat { table };
-        memory
+        Self { table }
     }
 
     /// The table, as the memory leaves it.
@@ -56,6 +55,17 @@ impl<'a> Flat<'a> {
     {
         let Flat { table } = self;
         table
+    }
+
+    /// The place of a block's cell.
+    fn place(&self, block: u16) -> Result<usize, Refusal>
+        ensures { result ≡ (if nat_lt block (flat_size self.now.table.now) then Ok block else Err NoSuchBlock) }
+    {
+        if u32::from(block) < self.size() {
+            Ok(usize::from(block))
+        } else {
+            Err(Refusal::NoSuchBlock)
+        }
     }
 }
 
@@ -70,35 +80,25 @@ impl<'a> Memory for Flat<'a> {
     }
 
     fn ask(&self, block: u16) -> Result<Option<u32>, Refusal> {
-        if (block as u32) < self.size() {
-            let cell = self.table[block as usize];
-            match cell.state {
-                State::Valid => Ok(Some(cell.stamp)),
-                State::Stale => Ok(None),
-            }
-        } else {
-            Err(Refusal::NoSuchBlock)
-        }
+        let cell = self.table[self.place(block)?];
+        Ok(match cell.state {
+            State::Valid => Some(cell.stamp),
+            State::Stale => None,
+        })
     }
 
     fn store(&mut self, block: u16, stamp: u32) -> Result<(), Refusal> {
-        if (block as u32) < self.size() {
-            self.table[block as usize] = Cell {
-                state: State::Valid,
-                stamp,
-            };
-            Ok(())
-        } else {
-            Err(Refusal::NoSuchBlock)
-        }
+        let place = self.place(block)?;
+        self.table[place] = Cell {
+            state: State::Valid,
+            stamp,
+        };
+        Ok(())
     }
 
     fn stale(&mut self, block: u16) -> Result<(), Refusal> {
-        if (block as u32) < self.size() {
-            self.table[block as usize].state = State::Stale;
-            Ok(())
-        } else {
-            Err(Refusal::NoSuchBlock)
-        }
+        let place = self.place(block)?;
+        self.table[place].state = State::Stale;
+        Ok(())
     }
 }

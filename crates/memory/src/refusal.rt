@@ -10,12 +10,12 @@ pub enum Refusal {
     BadTable,
 }
 
-impl Refusal {
-    /// The number by which a report names the refusal.
-    pub fn number(self) -> u8
-        ensures { result ≡ refusal_number self }
-    {
-        match self {
+/// The number by which a report names the refusal.
+impl From<Refusal> for u8 {
+    ghost from_gives = { λ r n. n ≡ refusal_number r };
+
+    fn from(refusal: Refusal) -> u8 {
+        match refusal {
             Refusal::NoSuchBlock => 6,
             Refusal::BadTable => 13,
         }

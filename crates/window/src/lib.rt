@@ -1,7 +1,8 @@
 //! A stretch of another memory.
 #![tactic(auto)]
 
-ghost use Rattle.std.specs.Prelude.{◌≡◌, ◌+◌, if◌then◌else◌, Some, None, nat_lt};
+ghost use Rattle.std.specs.Prelude.{◌≡◌, ◌+◌, if◌then◌else◌, Ok, Err, nat_lt};
+ghost use Rattle.memory.specs.declared.refusal.Refusal.TheVariants.{NoSuchBlock};
 ghost use Rattle.window.specs.Window.{window_size, window};
 ghost use Rattle.window.specs.WindowLaws.{window-lawful};
 
@@ -33,22 +34,18 @@ impl<M: Memory> Window<M> {
     pub fn into_below(self) -> M
         ensures { result ≡ self.below }
     {
-        let Window {
-            below,
-            start: _,
-            length: _,
-        } = self;
+        let Window { below, .. } = self;
         below
     }
 
     /// The block below that a block of the window is.
-    fn block_below(&self, block: u16) -> Option<u16>
-        ensures { result ≡ (if nat_lt block (window_size self.now.start self.now.length (M.Memory.meaning self.now.below)) then Some (self.now.start + block) else None) }
+    fn block_below(&self, block: u16) -> Result<u16, Refusal>
+        ensures { result ≡ (if nat_lt block (window_size self.now.start self.now.length (M.Memory.meaning self.now.below)) then Ok (self.now.start + block) else Err NoSuchBlock) }
     {
-        if (block as u32) < self.size() {
-            Some((self.start + block as u32) as u16)
+        if u32::from(block) < self.size() {
+            Ok((self.start + u32::from(block)) as u16)
         } else {
-            None
+            Err(Refusal::NoSuchBlock)
         }
     }
 }
@@ -66,23 +63,17 @@ impl<M: Memory> Memory for Window<M> {
     }
 
     fn ask(&self, block: u16) -> Result<Option<u32>, Refusal> {
-        match self.block_below(block) {
-            Some(found) => self.below.ask(found),
-            None => Err(Refusal::NoSuchBlock),
-        }
+        self.below.ask(self.block_below(block)?)
     }
 
     fn store(&mut self, block: u16, stamp: u32) -> Result<(), Refusal> {
-        match self.block_below(block) {
-            Some(found) => self.below.store(found, stamp),
-            None => Err(Refusal::NoSuchBlock),
-        }
+        // named first: the check does not cover a use of `self` among the arguments of a call that writes `self.below`
+        let found = self.block_below(block)?;
+        self.below.store(found, stamp)
     }
 
     fn stale(&mut self, block: u16) -> Result<(), Refusal> {
-        match self.block_below(block) {
-            Some(found) => self.below.stale(found),
-            None => Err(Refusal::NoSuchBlock),
-        }
+        let found = self.block_below(block)?;
+        self.below.stale(found)
     }
 }

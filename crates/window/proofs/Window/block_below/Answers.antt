@@ -5,5 +5,5 @@ use Rattle.window.proofs.Window.block_below.Goals as goal
 pub overflow_add-result : goal.overflow_add-result
 overflow_add-result g c = omega (arith, (g.M.Memory.lawful c.args.self.now.below []).bounded)
 
-pub overflow_cast-result-then-block-size : goal.overflow_cast-result-then-block-size
-overflow_cast-result-then-block-size g c = omega (arith, (g.M.Memory.lawful c.args.self.now.below []).bounded)
+pub overflow_cast-result : goal.overflow_cast-result
+overflow_cast-result g c = omega (arith, (g.M.Memory.lawful c.args.self.now.below []).bounded)
