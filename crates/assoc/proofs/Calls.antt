@@ -1,5 +1,5 @@
 -- What the calls of the sets do to the tier.
-use Rattle.std.proofs.Common.{◌≡◌, ℕ, ◌+◌, ◌<◌, ◌≤◌, List, ◌++◌, map, length, get_or, set, take, drop, vec_items, vec_len, sym, ap, subst, ◌∙◌, mod-lt, arith}
+use Rattle.std.proofs.Common.{◌≡◌, ℕ, ◌+◌, ◌%◌, ◌<◌, ◌≤◌, List, ◌++◌, map, length, get_or, set, take, drop, vec_items, vec_len, sym, ap, subst, ◌∙◌, mod-lt, arith}
 use Rattle.std.proofs.lemmas.List.{append-nil, get_or-map, length-map, map-set, take_all, drop_all, with_items_is}
 use Rattle.std.proofs.lemmas.List.Edits.{map_over_more}
 use Rattle.std.specs.Vec.{with_items}
@@ -11,7 +11,7 @@ use Rattle.assoc.specs.declared.set_associative.SetAssociative.{SetAssociative}
 use Rattle.assoc.specs.Sets.{Sets, lru, nth, called, index, sets_step, set_associative, Placed, lru_of, lrus_of}
 use Rattle.assoc.specs.SetAssociative.{sets_of, meaning_of}
 use Rattle.assoc.specs.SetsLaws.{keeps}
-use Rattle.assoc.specs.Calls.{good_of, index_is}
+use Rattle.assoc.specs.Calls.{good_of}
 
 -- the sets ts are those of t after the call: each still holds blocks of its own only
 pub record Steps (t : SetAssociative) (ts : List (Ranked Lru)) (c : TierCall) : Type 0 where
@@ -20,6 +20,9 @@ pub record Steps (t : SetAssociative) (ts : List (Ranked Lru)) (c : TierCall) : 
 
 steps : (t : SetAssociative) (ts : List (Ranked Lru)) (c : TierCall) → lrus_of ts ≡ sets_step (sets_of t) c → Steps t ts c
 steps t ts c e = record { placed = subst (λ (ms : Sets). Placed ms) (sym e) (keeps (sets_of t) (good_of t) c).placed; next = ap set_associative e }
+
+pub index_is : (t : SetAssociative) (n : ℕ) → n % vec_len t.sets ≡ index (sets_of t) n
+index_is t n = ap (λ i. n % i) (t.sets.ok.0 ∙ sym (length-map (vec_items t.sets) lru_of))
 
 -- a call of the set x of block n that makes it y
 pub set_called : (t : SetAssociative) (n : ℕ) (c : TierCall) {i : ℕ} {x : Ranked Lru} (y : Ranked Lru) → sets_step (sets_of t) c ≡ called (sets_of t) (index (sets_of t) n) c

@@ -1,6 +1,7 @@
--- What the call of one set does to the sets of the code.
+-- The sets of the code are good.
 use Rattle.std.specs.Prelude.{◌≡◌, ℕ, zero, suc, ◌%◌, ◌<◌, true, List, [], ◌∷◌, length, vec_items, vec_len}
-use Rattle.std.proofs.Common.{sym, ap, ◌∙◌, arith}
+use Rattle.std.proofs.Common.{arith}
+use Rattle.std.proofs.lemmas.List.{length-map}
 use Rattle.tier.specs.Meaning.{Lawful}
 use Rattle.ranked.specs.declared.policy.Lru.{Lru}
 use Rattle.ranked.specs.declared.ranked.Ranked.{Ranked}
@@ -8,7 +9,6 @@ use Rattle.ranked.specs.RankedLaws.{ranked-lawful}
 use Rattle.assoc.specs.declared.set_associative.SetAssociative.{SetAssociative}
 use Rattle.assoc.specs.Sets.{nth, index, lru_of, lrus_of}
 use Rattle.assoc.specs.SetAssociative.{sets_of}
-use Rattle.assoc.specs.Maps.{length_means}
 use Rattle.assoc.specs.SetsLaws.{Good}
 
 lrus_lawful : (ts : List (Ranked Lru)) (i : ℕ) → i < length ts → Lawful (nth (lrus_of ts) i)
@@ -18,13 +18,10 @@ lrus_lawful (t ∷ ts) (suc i) lt = lrus_lawful ts i (omega arith)
 
 pub good_of : (t : SetAssociative) → Good (sets_of t)
 good_of t =
-    let len = length_means lru_of (vec_items t.sets) in
+    let len = length-map (vec_items t.sets) lru_of in
     let ok = t.sets.ok.0 in
     record {
       some = let h = t.some in omega arith;
       lawful = λ i lt. lrus_lawful (vec_items t.sets) i (omega arith);
       placed = t.placed;
     }
-
-pub index_is : (t : SetAssociative) (n : ℕ) → n % vec_len t.sets ≡ index (sets_of t) n
-index_is t n = ap (λ i. n % i) (t.sets.ok.0 ∙ sym (length_means lru_of (vec_items t.sets)))

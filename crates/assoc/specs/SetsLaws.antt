@@ -1,6 +1,7 @@
 -- A tier of sets keeps the laws of a tier, where its sets do.
 use Rattle.std.specs.Prelude.{◌≡◌, ℕ, zero, suc, ◌%◌, ◌<◌, ◌≤◌, Bool, true, false, [], ◌∷◌, map, length, set, is_some, Some, None, Option, ◌≢◌, nat_lt, slice_set, refl}
 use Rattle.std.proofs.Common.{sym, ap, subst, ◌∙◌, mod-lt, arith, length-set, get_or-set_same, get_or-set_other, ltb-true, ltb-false}
+use Rattle.std.proofs.lemmas.List.{length-map, get_or-map}
 use Rattle.std.proofs.Math.Decide.{ℕ_discrete}
 use Rattle.device.specs.Device.{after}
 use Rattle.device.specs.Laws.{device_always}
@@ -11,7 +12,6 @@ use Rattle.tier.specs.Options.{never, some_of}
 use Rattle.tier.specs.Holdings.{bare-held}
 use Rattle.tier.proofs.Holds.{put-within, change-same, touch-same}
 use Rattle.assoc.specs.Sets.{Sets, lru, nth, called, index, sets_view, sets_step, set_associative, Placed}
-use Rattle.assoc.specs.Maps.{length_means, nth-map}
 
 set-nth : (ms : Sets) (i : ℕ) → slice_set ms i (nth ms i) ≡ ms
 set-nth [] i = refl
@@ -97,10 +97,10 @@ module _ (ms : Sets) (ok : Good ms) where
         ]
 
   pub count-clear : length (map (λ m. after m clear) ms) ≡ length ms
-  count-clear = length_means (λ m. after m clear) ms
+  count-clear = length-map ms (λ m. after m clear)
 
   pub nth-clear : (i : ℕ) → i < length ms → nth (map (λ m. after m clear) ms) i ≡ after (nth ms i) clear
-  nth-clear i lt = nth-map (λ m. after m clear) ms i (lru 1) (lru 1) lt
+  nth-clear i lt = get_or-map (λ m. after m clear) ms i (lru 1) (lru 1) lt
 
   gone : (i b : ℕ) (t : Bool) → nat_lt i (length ms) ≡ t → look_of (nth (map (λ m. after m clear) ms) i) b ≡ None
   gone i b true e = let lt = ltb-true i (length ms) e in ap (λ m. look_of m b) (nth-clear i lt) ∙ (ok.lawful i lt []).clear_gone b

@@ -37,16 +37,6 @@ impl SetAssociative {
         ensures built { Builds meaning_of result (built sets ways) }
         ensures law { IfOk result (λ t. OldestLeaves true sets (meaning_of t)) }
     {
-        SetAssociative::sized(heap, sets, ways)
-    }
-
-    fn sized(
-        heap: Global,
-        sets: usize,
-        ways: usize,
-    ) -> Result<SetAssociative, BuildError<SetAssociative>>
-        ensures { Builds meaning_of result (built sets ways) }
-    {
         let fits = (1..=MOST_SETS).contains(&sets) && (1..=MOST_WAYS).contains(&ways);
         BuildError::build(fits, (sets, ways), (1, 1), |(sets, ways)| {
             SetAssociative::cleared(heap, sets, ways)
@@ -58,7 +48,7 @@ impl SetAssociative {
         ensures { IfOk result (λ t. sets_of t ≡ empty count ways) }
     {
         let mut sets = Vec::new(heap);
-        for made in 0..count {
+        for _made in 0..count {
             let set = Ranked::with_policy(heap, Lru, ways).or_else(BuildError::into_tier)?;
             sets.push(set)?;
         }

@@ -8,6 +8,7 @@ use Rattle.device.specs.Device.{Always}
 use Rattle.device.specs.Laws.{device_always}
 use Rattle.parts.specs.declared.mark.Mark.{Mark}
 use Rattle.parts.specs.declared.line.Line.{Line}
+use Rattle.parts.specs.Lines.{shown_of}
 use Rattle.parts.specs.Marks.{mark_number}
 use Rattle.tier.specs.Meaning.{TierCall, put, take, change, touch, clear, Holding, line, if_held, bare, TierLaws, Lawful}
 use Rattle.tier.specs.Options.{never, none-some, some_same, is_some_lem, some_of}
@@ -17,22 +18,19 @@ use Rattle.direct.specs.Lines.{Lines, slot, at, shows, direct_view, direct_step,
 use Rattle.direct.specs.Direct.{direct_of}
 use Rattle.direct.specs.Mapped.{DirectMapped}
 
-abbrev holding : Line → Holding
-holding g = (mark_number g.mark, g.stamp, 1)
-
 -- ---- what a line shows
 
-shows-own : (g : Line) (n : ℕ) → g.block ≡ n → shows (Some g) n ≡ Some (holding g)
-shows-own g n e = ap (λ b. cond b (Some (holding g)) None) (eq-eqb g.block n e)
+shows-own : (g : Line) (n : ℕ) → g.block ≡ n → shows (Some g) n ≡ Some (shown_of g)
+shows-own g n e = ap (λ b. cond b (Some (shown_of g)) None) (eq-eqb g.block n e)
 
 shows-other : (g : Line) (n : ℕ) → (g.block ≢ n) → shows (Some g) n ≡ None
-shows-other g n e = ap (λ b. cond b (Some (holding g)) None) (ne_eqb g.block n e)
+shows-other g n e = ap (λ b. cond b (Some (shown_of g)) None) (ne_eqb g.block n e)
 
 -- a line that shows block n holds it
-shown-own : (o : Option Line) (n : ℕ) (h : Holding) → shows o n ≡ Some h → (g : Line) × (o ≡ Some g) × (g.block ≡ n) × (holding g ≡ h)
+shown-own : (o : Option Line) (n : ℕ) (h : Holding) → shows o n ≡ Some h → (g : Line) × (o ≡ Some g) × (g.block ≡ n) × (shown_of g ≡ h)
 shown-own None n h e = never h e
 shown-own (Some g) n h e = elim (ℕ_discrete g.block n) [
-  | yes q ↦ (g, refl, q, some_same (holding g) h (sym (shows-own g n q) ∙ e))
+  | yes q ↦ (g, refl, q, some_same (shown_of g) h (sym (shows-own g n q) ∙ e))
   | no q ↦ none-some (shows (Some g) n) h (shows-other g n q) e
 ]
 
@@ -47,11 +45,6 @@ empty-at (suc n) (suc i) = empty-at n i
 
 pub empty-placed : (ls : Lines) (lines : ℕ) → ls ≡ empty lines → Placed ls
 empty-placed ls lines e i g h = never g (sym (ap (λ (ms : Lines). get_or ms i None) e ∙ empty-at lines i) ∙ h)
-
-pub all_none : (ls : Lines) (lines : ℕ) → length ls ≡ lines → ((k : ℕ) → k < lines → slice_index_or ls k None ≡ None) → ls ≡ empty lines
-all_none ls lines e h =
-    ext_get_or None ls (empty lines) (e ∙ sym (length-replicate lines None))
-    (λ i lt. h i (subst (λ (m : ℕ). i < m) e lt) ∙ sym (empty-at lines i))
 
 -- ---- lines in which every block stands in its own
 
@@ -109,7 +102,7 @@ module _ (lines : ℕ) (ls : Lines) (ok : Sound lines ls) where
   keeps clear = (ok.0, length-replicate len None ∙ ok.1, empty-placed (empty len) len refl)
 
   -- the block in the line of block n
-  there : (n : ℕ) (g : Line) → at ls n ≡ Some g → (slot ls g.block ≡ slot ls n) × (look ls g.block ≡ Some (holding g))
+  there : (n : ℕ) (g : Line) → at ls n ≡ Some g → (slot ls g.block ≡ slot ls n) × (look ls g.block ≡ Some (shown_of g))
   there n g e =
       let q = ok.2 (slot ls n) g e in
       (q, ap (λ i. shows (slice_index_or ls i None) g.block) q ∙ ap (λ o. shows o g.block) e ∙ shows-own g g.block refl)
@@ -153,7 +146,7 @@ module _ (lines : ℕ) (ls : Lines) (ok : Sound lines ls) where
     out_held = λ n k s g e o. ap bare (there n g o).1;
     out_gone = λ n k s g e o.
         let r = there n g o in
-        let ne : n ≡ g.block → ⊥ = λ q. none-some (look ls n) (holding g) e (ap (look ls) q ∙ r.1) in
+        let ne : n ≡ g.block → ⊥ = λ q. none-some (look ls n) (shown_of g) e (ap (look ls) q ∙ r.1) in
         ap (λ ms. look ms g.block) (put_next n k s e) ∙ at_same n g.block (Some (line n k s)) r.0 ∙ shows-other (line n k s) g.block ne;
     take_gone = take-look;
     take_rest = λ n b ne. beside (look ls n) n b None ne refl refl;
@@ -196,7 +189,7 @@ module _ (lines : ℕ) (ls : Lines) (ok : Sound lines ls) where
       go n h None e = e
       go n h (Some g) e =
           let r = there n g e in
-          absurd (h g.block (is_some_lem (look ls g.block) (holding g) r.1) (sym (ap (λ m. g.block % m) ok.1) ∙ r.0 ∙ ap (λ m. n % m) ok.1))
+          absurd (h g.block (is_some_lem (look ls g.block) (shown_of g) r.1) (sym (ap (λ m. g.block % m) ok.1) ∙ r.0 ∙ ap (λ m. n % m) ok.1))
 
 pub direct-lawful : (lines : ℕ) (ls : Lines) → Sound lines ls → Lawful (direct ls)
 direct-lawful lines = device_always (λ _. 1) direct_view direct_step (λ s c. refl) TierLaws (Sound lines) (λ s c i. keeps lines s i c) (laws lines)

@@ -3,7 +3,7 @@ use Rattle.std.specs.Prelude.{◌≡◌, ℕ, ◌%◌, cond, List, length, repli
 use Rattle.device.specs.Device.{device}
 use Rattle.parts.specs.declared.line.Line.{Line}
 use Rattle.parts.specs.declared.refusal.BuildError.{BuildError}
-use Rattle.parts.specs.Marks.{mark_number}
+use Rattle.parts.specs.Lines.{shown_of}
 use Rattle.tier.specs.Meaning.{TierMeaning, TierView, TierCall, put, take, change, touch, clear, Holding, line, if_held}
 use Rattle.tier.specs.Building.{within, in_range_else}
 
@@ -20,7 +20,7 @@ at ls n = slice_index_or ls (slot ls n) None
 -- what a line shows of block n
 abbrev pub shows : Option Line → ℕ → Option Holding
 shows None n = None
-shows (Some g) n = cond (g.block == n) (Some (mark_number g.mark, g.stamp, 1)) None
+shows (Some g) n = cond (g.block == n) (Some (shown_of g)) None
 
 -- a put gives out the block found in its line
 abbrev pub direct_view : Lines → TierView

@@ -29,12 +29,6 @@ impl Direct {
         ensures built { Builds direct_of result (built lines) }
         ensures law { IfOk result (λ d. Always (DirectMapped lines) (direct_of d)) }
     {
-        Direct::sized(heap, lines)
-    }
-
-    fn sized(heap: Global, lines: usize) -> Result<Direct, BuildError<Direct>>
-        ensures { Builds direct_of result (built lines) }
-    {
         let fits = (1..=MOST_LINES).contains(&lines);
         BuildError::build(fits, lines, 1, |lines| Direct::cleared(heap, lines))
     }

@@ -26,10 +26,6 @@ pub rises-later : (f : ℕ → ℕ) (low : ℕ) (ls : Ranks) (t t' : ℕ) → t 
 rises-later f low [] t t' le h = omega arith
 rises-later f low (g ∷ gs) t t' le h = (h.0, rises-later f _ gs t t' le h.1)
 
-rises-below : (f : ℕ → ℕ) (low : ℕ) (ls : Ranks) (t : ℕ) → Rises f low ls t → low ≤ t
-rises-below f low [] t h = h
-rises-below f low (g ∷ gs) t h = let p = rises-below f (suc (f g.block)) gs t h.1 in let q = h.0 in omega arith
-
 rises_found : (f : ℕ → ℕ) (low : ℕ) (ls : Ranks) (t b : ℕ) → Rises f low ls t → is_some (find ls b) ≡ true → low ≤ f b
 rises_found f low [] t b h e = let z : ◌≡◌ {A = ℕ} 0 1 = cc in absurd (omega arith)
 rises_found f low (g ∷ gs) t b h e = elim (ℕ_discrete g.block b) [

@@ -5,7 +5,7 @@ use Rattle.device.specs.Device.{device}
 use Rattle.parts.specs.declared.line.Line.{Line}
 use Rattle.parts.specs.declared.refusal.BuildError.{BuildError}
 use Rattle.tier.specs.Building.{within, in_range_else}
-use Rattle.parts.specs.Marks.{mark_number}
+use Rattle.parts.specs.Lines.{shown_of}
 use Rattle.tier.specs.Meaning.{TierMeaning, TierView, TierCall, put, take, change, touch, clear, Holding, line}
 
 -- the lines that hold a block, the oldest first
@@ -41,7 +41,7 @@ abbrev pub spared : ℕ → Ranks → Ranks
 spared ways ls = cond (nat_lt (length ls) ways) ls (younger ls)
 
 abbrev pub holding : Line → Holding
-holding g = (mark_number g.mark, g.stamp, 1)
+holding = shown_of
 
 abbrev pub ranked_view : ℕ → Ranks → TierView
 ranked_view ways ls = record { look = λ n. option_map holding (find ls n); out = λ n k s. ousted ways ls }

@@ -28,10 +28,6 @@ pub apart-without : (ls : Ranks) (n : ℕ) → apart ls ≡ true → apart (with
 apart-without [] n a = refl
 apart-without (h ∷ hs) n a = let ih = apart-without hs n in let fw = find-without hs n h.block in grind (arith, nat_tests)
 
-pub length_without : (ls : Ranks) (n : ℕ) (g : Line) → find ls n ≡ Some g → suc (length (without ls n)) ≡ length ls
-length_without [] n g e = never g e
-length_without (h ∷ hs) n g e = let ih = length_without hs n g in grind (arith, nat_tests)
-
 -- ---- with one line more
 
 pub find-push : (ls : Ranks) (x : Line) → find ls x.block ≡ None → find (ls ++ x ∷ []) x.block ≡ Some x
@@ -63,10 +59,6 @@ renewed-none (h ∷ hs) x e = let ih = renewed-none hs x in grind (arith, nat_te
 pub apart-renewed : (ls : Ranks) (x : Line) → apart ls ≡ true → apart (renewed ls x) ≡ true
 apart-renewed [] x a = refl
 apart-renewed (h ∷ hs) x a = let ih = apart-renewed hs x in let fw = find-renewed-other hs x h.block in grind (arith, nat_tests)
-
-pub length-renewed : (ls : Ranks) (x : Line) → length (renewed ls x) ≡ length ls
-length-renewed [] x = refl
-length-renewed (h ∷ hs) x = let ih = length-renewed hs x in grind (arith, nat_tests)
 
 -- ---- without the oldest
 

@@ -12,6 +12,6 @@ pub returns : goal.returns
 returns c =
     let lines = c.args.lines in
     record {
-      built = c.sized.ensures;
-      law = builds_made queue_of (OldestLeaves false 1) (within 1 16 lines) (ranked false lines []) (ranked false 1 []) c.sized.result c.sized.ensures (λ _. oldest_leaves false lines);
+      built = c.with_policy.ensures;
+      law = builds_made queue_of (OldestLeaves false 1) (within 1 16 lines) (ranked false lines []) (ranked false 1 []) c.with_policy.result c.with_policy.ensures (λ _. oldest_leaves false lines);
     }
