@@ -6,13 +6,8 @@ ghost use Rattle.examples.specs.Examples.{Examples};
 
 /// The examples hold of the definitions; the answer is how many there are.
 pub fn examples_hold() -> u8
-    ensures { (result ≡ 7) × Examples }
-{
-    count()
-}
-
-fn count() -> u8
-    ensures { result ≡ 7 }
+    ensures count { result ≡ 7 }
+    ensures hold { Examples }
 {
     7
 }

@@ -5,13 +5,8 @@ ghost use Rattle.study.specs.Warrant.{Warrant};
 /// Of any lawful tiers and memory and every list of calls: piles are tiers, cores and memory are coherent, every read
 /// delivered is honest, and the counts are those of the answers. The answer is how many parts that has.
 pub fn warrant_stands() -> u8
-    ensures { (result ≡ 4) × Warrant }
-{
-    parts()
-}
-
-fn parts() -> u8
-    ensures { result ≡ 4 }
+    ensures parts { result ≡ 4 }
+    ensures stands { Warrant }
 {
     4
 }

@@ -7,26 +7,16 @@ ghost use Rattle.study_examples.specs.Premises.{Premises};
 
 /// The examples of the study hold of the definitions; the answer is how many there are.
 pub fn study_examples_hold() -> u8
-    ensures { (result ≡ 8) × StudyExamples }
-{
-    count()
-}
-
-fn count() -> u8
-    ensures { result ≡ 8 }
+    ensures count { result ≡ 8 }
+    ensures hold { StudyExamples }
 {
     8
 }
 
 /// What is shipped meets the premises of what is proved of every study; the answer is how many there are.
 pub fn premises_met() -> u8
-    ensures { (result ≡ 12) × Premises }
-{
-    premises()
-}
-
-fn premises() -> u8
-    ensures { result ≡ 12 }
+    ensures count { result ≡ 12 }
+    ensures met { Premises }
 {
     12
 }

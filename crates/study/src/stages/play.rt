@@ -49,14 +49,6 @@ impl<R: Row, M: Memory> Draft<R, M> {
         ensures back { IfErr result (λ e. e.draft ≡ self) }
         ensures warrant { OnOk result (Warranted (R.cores self.row) (M.meaning self.memory) (prices_of self.weights)) }
     {
-        self.open_and_play(schedule)
-    }
-
-    fn open_and_play(self, schedule: &mut [Turn]) -> Result<Settled<R, M>, RefusedDraft<R, M>>
-        ensures ending { ended_as R.cores M.meaning result ≡ simulated (opening (R.cores self.row) (M.meaning self.memory) (prices_of self.weights)) (calls_of schedule.old) }
-        ensures turns { schedule.new ≡ recorded (opening (R.cores self.row) (M.meaning self.memory) (prices_of self.weights)) schedule.old }
-        ensures back { IfErr result (λ e. e.draft ≡ self) }
-    {
         let mut run = self.open()?;
         run.play(schedule);
         Ok(run.settle())

@@ -4,7 +4,7 @@ ghost use Rattle.protocol.specs.Weighing.{prices_of};
 ghost use Rattle.protocol.specs.Calls.{core_of};
 ghost use Rattle.row.specs.Cores.{state_at};
 ghost use Rattle.study.specs.Run.{tallied};
-ghost use Rattle.study.specs.Step.{charged, waiting, reading, writing, access, fetching, fetch, cleaning, flush, commit, act, checked, step};
+ghost use Rattle.study.specs.Step.{charged, waiting, reading, writing, access, fetching, fetch, cleaning, flush, commit, act, step};
 ghost use Rattle.study.specs.Stages.{run_of};
 ghost use Rattle.study.specs.Effects.{Does};
 
@@ -25,6 +25,7 @@ use row::Row;
 use row::message::Message;
 use row::operation::Operation;
 
+// A core and a block stand apart in parameters, as in a `Call`: fetch and resume name a core alone.
 impl<R: Row, M: Memory> Run<R, M> {
     // The core cannot make the access yet.
     fn wait(&mut self, core: u16, wanted: Access) -> Effect
@@ -118,10 +119,8 @@ impl<R: Row, M: Memory> Run<R, M> {
     fn fetch(&mut self, core: u16, access: Access) -> Result<Effect, Refusal>
         ensures { Does R.cores M.meaning self.old self.new result (fetch (run_of R.cores M.meaning self.old) core access) }
     {
-        match valid(&self.memory, access.block()) {
-            Some(stamp) => Ok(self.bring(core, access, stamp)),
-            None => Err(Refusal::StaleBlock),
-        }
+        let stamp = valid(&self.memory, access.block()).ok_or(Refusal::StaleBlock)?;
+        Ok(self.bring(core, access, stamp))
     }
 
     // Main memory takes a copy that a core holds modified with this stamp, and the copy is shared.
@@ -207,10 +206,11 @@ impl<R: Row, M: Memory> Run<R, M> {
             .accept(effect.performed, u32::from(moved) + u32::from(left));
     }
 
-    // The questions that are put to every call, and then the call.
-    fn check(&mut self, call: Call) -> Result<Answer, Refusal>
-        ensures run { run_of R.cores M.meaning self.new ≡ (checked (run_of R.cores M.meaning self.old) call).run }
-        ensures answer { result ≡ (checked (run_of R.cores M.meaning self.old) call).answer }
+    /// One step: the questions that are put to every call, and then the call. A refused one alters nothing.
+    #[tactic(auto, unfolding(crate::specs::Step::step))]
+    pub fn step(&mut self, call: Call) -> Result<Answer, Refusal>
+        ensures run { run_of R.cores M.meaning self.new ≡ (step (run_of R.cores M.meaning self.old) call).run }
+        ensures answer { result ≡ (step (run_of R.cores M.meaning self.old) call).answer }
     {
         if self.counts.steps() >= MOST_STEPS {
             return Err(Refusal::TooManySteps);
@@ -224,14 +224,5 @@ impl<R: Row, M: Memory> Run<R, M> {
         let effect = self.act(call)?;
         self.charge(effect);
         Ok(effect.answer)
-    }
-
-    /// One step. A refused one alters nothing.
-    #[tactic(auto, unfolding(crate::specs::Step::step))]
-    pub fn step(&mut self, call: Call) -> Result<Answer, Refusal>
-        ensures run { run_of R.cores M.meaning self.new ≡ (step (run_of R.cores M.meaning self.old) call).run }
-        ensures answer { result ≡ (step (run_of R.cores M.meaning self.old) call).answer }
-    {
-        self.check(call)
     }
 }

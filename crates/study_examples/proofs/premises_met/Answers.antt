@@ -49,21 +49,18 @@ opens a t some most =
     let go : Bool → Result RunMeaning Refusal = λ b. cond b (Err NoBlocks) (Ok (opened two_cores (flat a t) weights)) in
     ap (λ b. go (eqb (cond b 0 (length t)) 0)) (le-ltb 4096 (length t) most) ∙ ap go (ne_eqb (length t) 0 (λ e. omega arith))
 
-pub returns : goal.returns
-returns c = (
-  c.premises.ensures,
-  record {
-    direct_tier = λ l some _. lines l some;
-    queue = λ l _ _. ranked-lawful false l [] refl;
-    set_tier = λ s w some _ _ _. sets s w some;
-    piled = pile-lawful;
-    table = flat-lawful;
-    windowed = window-lawful;
-    in_turn = interleaved-lawful;
-    cores_lawful = both;
-    cores_few = few;
-    fair = fair;
-    opens = opens;
-    machine = λ a t. warrant two_cores (flat a t) weights few both (flat-lawful a t) fair;
-  },
-)
+pub returns-clause-met : goal.returns-clause-met
+returns-clause-met c = record {
+  direct_tier = λ l some _. lines l some;
+  queue = λ l _ _. ranked-lawful false l [] refl;
+  set_tier = λ s w some _ _ _. sets s w some;
+  piled = pile-lawful;
+  table = flat-lawful;
+  windowed = window-lawful;
+  in_turn = interleaved-lawful;
+  cores_lawful = both;
+  cores_few = few;
+  fair = fair;
+  opens = opens;
+  machine = λ a t. warrant two_cores (flat a t) weights few both (flat-lawful a t) fair;
+}
