@@ -1,10 +1,17 @@
 //! A tier of lines, in which each block has one line where it may stand.
-ghost use Rattle.std.specs.Prelude.{◌≤◌, vec_len};
-ghost use Rattle.direct.specs.Lines.{Placed};
+ghost use Rattle.std.specs.Prelude.{◌≡◌, ◌<◌, ◌≤◌, IfOk, vec_len};
+ghost use Rattle.device.specs.Device.{Always};
+ghost use Rattle.tier.specs.Building.{Builds};
+ghost use Rattle.direct.specs.Lines.{slot, direct, empty, built, Placed};
+ghost use Rattle.direct.specs.Mapped.{DirectMapped};
 
 use parts::line::Line;
+use parts::refusal::{BuildError, Refusal};
+use std::alloc::{AllocError, Global};
+use tier::Tier;
 
-pub mod methods;
+/// The most lines that a direct tier may have.
+pub const MOST_LINES: usize = 64;
 
 #[derive(Drop)]
 pub struct Direct {
@@ -12,4 +19,88 @@ pub struct Direct {
     ghost some: { 1 ≤ vec_len lines },
     ghost most: { vec_len lines ≤ 64 },
     ghost placed: { Placed lines.items },
+}
+
+impl Direct {
+    ghost use Rattle.direct.specs.Direct.{direct_of};
+
+    /// An empty tier of 1 to 64 lines. Block n belongs to line n mod `lines`.
+    pub fn new(heap: Global, lines: usize) -> Result<Direct, BuildError<Direct>>
+        ensures built { Builds direct_of result (built lines) }
+        ensures law { IfOk result (λ d. Always (DirectMapped lines) (direct_of d)) }
+    {
+        Direct::sized(heap, lines)
+    }
+
+    fn sized(heap: Global, lines: usize) -> Result<Direct, BuildError<Direct>>
+        ensures { Builds direct_of result (built lines) }
+    {
+        let fits = (1..=MOST_LINES).contains(&lines);
+        BuildError::build(fits, lines, 1, |lines| Direct::cleared(heap, lines))
+    }
+
+    fn cleared(heap: Global, lines: usize) -> Result<Direct, AllocError>
+        requires { (1 ≤ lines) × (lines ≤ 64) }
+        ensures { IfOk result (λ d. direct_of d ≡ direct (empty lines)) }
+    {
+        let lines = vec![in heap; None; lines]?;
+        Ok(Direct { lines })
+    }
+
+    // The number of the line of a block.
+    fn slot(&self, block: u16) -> usize
+        ensures value { result ≡ slot self.now.lines.items block }
+        ensures within { result < vec_len self.now.lines }
+    {
+        usize::from(block) % self.lines.len()
+    }
+}
+
+impl Tier for Direct {
+    ghost use Rattle.direct.specs.Direct.{direct_of};
+    ghost use Rattle.direct.specs.DirectLaws.{direct_of-lawful};
+
+    ghost meaning = { direct_of };
+
+    ghost lawful = { direct_of-lawful };
+
+    fn depth(&self) -> u8 {
+        1
+    }
+
+    fn look(&self, block: u16) -> Option<(u8, u32, u8)> {
+        let slot = self.slot(block);
+        self.lines[slot].filter(|line| line.block == block).map(Line::shown)
+    }
+
+    fn put(&mut self, line: Line) -> Result<Option<Line>, Refusal> {
+        if self.look(line.block).is_some() {
+            return Err(Refusal::AlreadyHeld);
+        }
+        let slot = self.slot(line.block);
+        Ok(self.lines[slot].replace(line))
+    }
+
+    fn take(&mut self, block: u16) -> Option<(u8, u32, u8)> {
+        let shown = self.look(block)?;
+        let slot = self.slot(block);
+        self.lines[slot] = None;
+        Some(shown)
+    }
+
+    fn change(&mut self, line: Line) -> Result<(), Refusal> {
+        self.look(line.block).ok_or(Refusal::NotHeld)?;
+        let slot = self.slot(line.block);
+        self.lines[slot] = Some(line);
+        Ok(())
+    }
+
+    fn touch(&mut self, block: u16) -> Result<(), Refusal> {
+        self.look(block).ok_or(Refusal::NotHeld)?;
+        Ok(())
+    }
+
+    fn clear(&mut self) {
+        self.lines.fill(None);
+    }
 }

@@ -11,6 +11,7 @@ ghost use Rattle.machine.specs.Machine.{two_levels, two_cores, caches_of, cores_
 use assoc::set_associative::SetAssociative;
 use direct::direct::Direct;
 use pair::Pair;
+use parts::refusal::BuildError;
 use row::one_core::Core;
 use std::alloc::{AllocError, Global};
 use tier::pile::Pile;
@@ -21,33 +22,22 @@ pub type Caches = Pile<Direct, SetAssociative>;
 /// Two cores with such caches.
 pub type TwoCores = Pair<Core<Caches>, Core<Caches>>;
 
-// A direct tier of 2 lines.
-fn upper(heap: Global) -> Result<Direct, AllocError>
-    ensures { IfOk result (λ d. direct_of d ≡ direct (empty 2)) }
+// Two empty tiers, one on the other: a pile clears both, and leaves them as they are.
+fn stack(upper: Direct, lower: SetAssociative) -> Caches
+    requires upper_empty { direct_of upper ≡ direct (empty 2) }
+    requires lower_empty { meaning_of lower ≡ set_associative (empty-sets 2 2) }
+    ensures { caches_of result ≡ two_levels }
 {
-    match Direct::new(heap, 2) {
-        Ok(tier) => Ok(tier),
-        Err(_) => Err(AllocError),
-    }
-}
-
-// A set-associative tier of 2 sets of 2 ways.
-fn lower(heap: Global) -> Result<SetAssociative, AllocError>
-    ensures { IfOk result (λ s. meaning_of s ≡ set_associative (empty-sets 2 2)) }
-{
-    match SetAssociative::new(heap, 2, 2) {
-        Ok(tier) => Ok(tier),
-        Err(_) => Err(AllocError),
-    }
+    Pile::new(upper, lower)
 }
 
 /// Empty caches: 2 lines on 2 sets of 2 ways.
 pub fn two_levels(heap: Global) -> Result<Caches, AllocError>
     ensures { IfOk result (λ c. caches_of c ≡ two_levels) }
 {
-    let upper = upper(heap)?;
-    let lower = lower(heap)?;
-    Ok(Pile::new(upper, lower))
+    let upper = Direct::new(heap, 2).or_else(BuildError::into_tier)?;
+    let lower = SetAssociative::new(heap, 2, 2).or_else(BuildError::into_tier)?;
+    Ok(stack(upper, lower))
 }
 
 /// Two ready cores with such caches, all empty.

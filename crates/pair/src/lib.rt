@@ -1,13 +1,13 @@
 //! Two rows side by side.
 #![tactic(auto)]
 
-ghost use Rattle.std.specs.Prelude.{◌≡◌, ◌+◌, min, ◌||◌, ◌++◌};
-ghost use Rattle.row.specs.Cores.{later};
+ghost use Rattle.std.specs.Prelude.{◌≡◌, ◌++◌};
 ghost use Rattle.pair.specs.Seats.{seat_of};
 ghost use Rattle.pair.specs.Places.{lawful_both};
 
 use parts::line::Line;
 use protocol::access::CoreState;
+use row::message::Message;
 use row::operation::Operation;
 use row::{MOST_CORES, Row};
 
@@ -28,7 +28,8 @@ impl<R: Row, S: Row> Pair<R, S> {
 }
 
 /// Where a core of a pair stands: in one of the rows, by its number there.
-#[derive(Clone, Copy)]
+// Each call of a pair matches on the seat for itself: the two rows are of different types, and no closure takes a row of either.
+#[derive(Clone, Copy, PartialEq, Eq, Debug)]
 enum Seat {
     First(u16),
     Second(u16),
@@ -48,30 +49,7 @@ fn seat_in(before: u16, core: u16) -> Seat
     }
 }
 
-// The number of the second row's first core, if the first row has so many. It stops at the largest number, which no message
-// reaches.
-fn number_after(first: u16, before: u16) -> u16
-    ensures { result ≡ min 65535 (first + before) }
-{
-    first.saturating_add(before)
-}
-
-// The later of two stamps met.
-fn later(a: Option<u32>, b: Option<u32>) -> Option<u32>
-    ensures { result ≡ later a b }
-{
-    match b {
-        Some(stamp) => Some(stamp),
-        None => a,
-    }
-}
-
-fn either(a: bool, b: bool) -> bool
-    ensures { result ≡ (a || b) }
-{
-    a || b
-}
-
+// The second row is numbered on from the first. Its number stops at the largest, which no message reaches.
 impl<R: Row, S: Row> Row for Pair<R, S> {
     ghost cores = { λ p. R.Row.cores p.first ++ S.Row.cores p.second };
 
@@ -81,6 +59,7 @@ impl<R: Row, S: Row> Row for Pair<R, S> {
         (self.first.count() + self.second.count()).min(MOST_CORES + 1)
     }
 
+    #[tactic(auto, using(crate::proofs::Seated::by_seat), unfolding(row::specs::Cores::absent))]
     fn state(&self, core: u16) -> CoreState {
         match seat_in(self.first.count(), core) {
             Seat::First(core) => self.first.state(core),
@@ -89,6 +68,7 @@ impl<R: Row, S: Row> Row for Pair<R, S> {
         }
     }
 
+    #[tactic(auto, using(crate::proofs::Seated::by_seat), unfolding(row::specs::Cores::absent))]
     fn turn(&mut self, core: u16, state: CoreState) {
         match seat_in(self.first.count(), core) {
             Seat::First(core) => self.first.turn(core, state),
@@ -97,6 +77,7 @@ impl<R: Row, S: Row> Row for Pair<R, S> {
         }
     }
 
+    #[tactic(auto, using(crate::proofs::Seated::by_seat), unfolding(row::specs::Cores::absent))]
     fn look(&self, core: u16, block: u16) -> Option<(u8, u32, u8)> {
         match seat_in(self.first.count(), core) {
             Seat::First(core) => self.first.look(core, block),
@@ -105,6 +86,7 @@ impl<R: Row, S: Row> Row for Pair<R, S> {
         }
     }
 
+    #[tactic(auto, using(crate::proofs::Seated::by_seat), unfolding(row::specs::Cores::absent))]
     fn operate(&mut self, core: u16, operation: Operation) -> Option<Line> {
         match seat_in(self.first.count(), core) {
             Seat::First(core) => self.first.operate(core, operation),
@@ -113,20 +95,21 @@ impl<R: Row, S: Row> Row for Pair<R, S> {
         }
     }
 
-    fn invalidate(&mut self, first: u16, sender: u16, block: u16) -> Option<u32> {
-        let second = number_after(first, self.first.count());
-        let a = self.first.invalidate(first, sender, block);
-        let b = self.second.invalidate(second, sender, block);
-        later(a, b)
+    #[tactic(auto, using(crate::proofs::Messages::by_row))]
+    fn invalidate(&mut self, first: u16, message: Message) -> Option<u32> {
+        let second = first.saturating_add(self.first.count());
+        let earlier = self.first.invalidate(first, message);
+        let later = self.second.invalidate(second, message);
+        later.or(earlier)
     }
 
-    fn awaited(&self, first: u16, sender: u16, block: u16) -> bool {
-        let second = number_after(first, self.first.count());
-        let a = self.first.awaited(first, sender, block);
-        let b = self.second.awaited(second, sender, block);
-        either(a, b)
+    #[tactic(auto, using(crate::proofs::Messages::by_row))]
+    fn awaited(&self, first: u16, message: Message) -> bool {
+        let second = first.saturating_add(self.first.count());
+        self.first.awaited(first, message) || self.second.awaited(second, message)
     }
 
+    #[tactic(auto, using(crate::proofs::Messages::by_row))]
     fn renew(&mut self) {
         self.first.renew();
         self.second.renew();

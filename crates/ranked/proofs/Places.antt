@@ -1,54 +1,58 @@
--- Where a block stands: what follows from the first place that has it.
-use Rattle.std.proofs.Common.{◌≡◌, ℕ, zero, suc, ◌<◌, false, cond, eqb, [], ◌∷◌, length, get_or, set, Some, None, Option, sym, refl, ap, ◌∙◌, subst, arith, eq-eqb, ne_eqb}
-use Rattle.std.specs.List.{remove}
+-- Where a block stands: what follows for the ranks from the first place that has it.
+use Rattle.std.proofs.Common.{◌≡◌, ℕ, suc, ◌+◌, ◌<◌, ◌≤◌, Bool, true, false, not, cond, eqb, ltb, [], ◌∷◌, length, get_or, set, Some, None, sym, refl, ap, ◌∙◌, arith, ltb-true, ltb-false}
+use Rattle.std.proofs.lemmas.Bool.Decides.{nat_tests}
+use Rattle.std.specs.List.{remove, position, position_or_len}
 use Rattle.parts.specs.declared.line.Line.{Line}
-use Rattle.ranked.specs.Ranks.{Ranks, find, without, renewed}
-use Rattle.ranked.specs.Ranked.{no_line, Stands, Missing}
-use Rattle.ranked.specs.RanksLemmas.{without-none, renewed-none}
+use Rattle.ranked.specs.Ranks.{Ranks, find, without, renewed, apart}
+use Rattle.ranked.specs.Ranked.{no_line, Place}
+use Rattle.ranked.specs.RanksLemmas.{find-block, find-gone, without-none, apart-without, renewed-none, apart-renewed}
 
--- the first place of block n, or that it has none
-abbrev pub First : Ranks → ℕ → Option ℕ → Type 0
-First ls n None = (k : ℕ) → k < length ls → (get_or ls k no_line).block ≡ n → ⊥
-First ls n (Some i) = (i < length ls) × ((get_or ls i no_line).block ≡ n) × ((k : ℕ) → k < i → (get_or ls k no_line).block ≡ n → ⊥)
+abbrev pub has : ℕ → Line → Bool
+has n g = eqb g.block n
 
-later : (g : Line) (gs : Ranks) (n i : ℕ) → First (g ∷ gs) n (Some (suc i)) → First gs n (Some i)
-later g gs n i h = (omega arith, h.1, λ k lt e. h.2 (suc k) (omega arith) e)
+module _ (n : ℕ) where
+  abbrev place : Ranks → ℕ
+  place = position_or_len (has n)
 
-not_head : (g : Line) (gs : Ranks) (n i : ℕ) → First (g ∷ gs) n (Some (suc i)) → eqb g.block n ≡ false
-not_head g gs n i h = ne_eqb g.block n (λ e. h.2 0 (omega arith) e)
+  find_past : (ls : Ranks) → length ls ≤ place ls → find ls n ≡ None
+  find_past [] le = refl
+  find_past (g ∷ gs) le = let ih = find_past gs in grind (arith, nat_tests)
 
-first-none : (ls : Ranks) (n : ℕ) → First ls n None → find ls n ≡ None
-first-none [] n h = refl
-first-none (g ∷ gs) n h =
-    ap (λ b. cond b (Some g) (find gs n)) (ne_eqb g.block n (λ e. h 0 (omega arith) e))
-    ∙ first-none gs n (λ k lt e. h (suc k) (omega arith) e)
+  find_at : (ls : Ranks) → place ls < length ls → find ls n ≡ Some (get_or ls (place ls) no_line)
+  find_at [] lt = absurd (omega arith)
+  find_at (g ∷ gs) lt = let ih = find_at gs in grind (arith, nat_tests)
 
-first_some : (ls : Ranks) (n i : ℕ) → First ls n (Some i) → find ls n ≡ Some (get_or ls i no_line)
-first_some [] n i h = absurd (omega arith)
-first_some (g ∷ gs) n zero h = ap (λ b. cond b (Some g) (find gs n)) (eq-eqb g.block n h.1)
-first_some (g ∷ gs) n (suc i) h = ap (λ b. cond b (Some g) (find gs n)) (not_head g gs n i h) ∙ first_some gs n i (later g gs n i h)
+  remove_at : (ls : Ranks) → place ls < length ls → remove ls (place ls) ≡ without ls n
+  remove_at [] lt = absurd (omega arith)
+  remove_at (g ∷ gs) lt = go (remove_at gs) (has n g) lt
+    where
+      go : (place gs < length gs → remove gs (place gs) ≡ without gs n) → (b : Bool) → cond (not b) (1 + place gs) 0 < length (g ∷ gs)
+          → remove (g ∷ gs) (cond (not b) (1 + place gs) 0) ≡ cond b gs (g ∷ without gs n)
+      go ih true lt = refl
+      go ih false lt = let more : 1 + place gs ≡ suc (place gs) = omega arith in ap (remove (g ∷ gs)) more ∙ ap (λ xs. g ∷ xs) (ih (omega arith))
 
-first_removed : (ls : Ranks) (n i : ℕ) → First ls n (Some i) → remove ls i ≡ without ls n
-first_removed [] n i h = absurd (omega arith)
-first_removed (g ∷ gs) n zero h = sym (ap (λ b. cond b gs (g ∷ without gs n)) (eq-eqb g.block n h.1))
-first_removed (g ∷ gs) n (suc i) h =
-    ap (λ xs. g ∷ xs) (first_removed gs n i (later g gs n i h)) ∙ sym (ap (λ b. cond b gs (g ∷ without gs n)) (not_head g gs n i h))
+  set_at : (ls : Ranks) (x : Line) → x.block ≡ n → place ls < length ls → set ls (place ls) x ≡ renewed ls x
+  set_at [] x e lt = absurd (omega arith)
+  set_at (g ∷ gs) x e lt = let ih = set_at gs x e in grind (arith, nat_tests)
 
-first-set : (ls : Ranks) (x : Line) (i : ℕ) → First ls x.block (Some i) → set ls i x ≡ renewed ls x
-first-set [] x i h = absurd (omega arith)
-first-set (g ∷ gs) x zero h = sym (ap (λ b. cond b (x ∷ gs) (g ∷ renewed gs x)) (eq-eqb g.block x.block h.1))
-first-set (g ∷ gs) x (suc i) h =
-    ap (λ xs. g ∷ xs) (first-set gs x i (later g gs x.block i h)) ∙ sym (ap (λ b. cond b (x ∷ gs) (g ∷ renewed gs x)) (not_head g gs x.block i h))
+  placed : (ls : Ranks) (b : Bool) → apart ls ≡ true → ltb (place ls) (length ls) ≡ b → Place ls n (cond b (Some (place ls)) None)
+  placed ls true a e =
+      let lt = ltb-true (place ls) (length ls) e in
+      let is = find_at ls lt in
+      let cut = remove_at ls lt in
+      record {
+        within = lt;
+        is = is;
+        own = find-block ls n _ is;
+        cut = cut;
+        cut_alone = ap apart cut ∙ apart-without ls n a;
+        cut_gone = ap (λ xs. find xs n) cut ∙ find-gone ls n a;
+        new = λ x q. set_at ls x q lt;
+        new_alone = λ x q. ap apart (set_at ls x q lt) ∙ apart-renewed ls x a;
+      }
+  placed ls false a e =
+      let is = find_past ls (ltb-false (place ls) (length ls) e) in
+      record { is = is; cut = without-none ls n is; new = λ x q. sym (renewed-none ls x (ap (find ls) q ∙ is)) }
 
-pub stands : (ls : Ranks) (n i : ℕ) → First ls n (Some i) → Stands ls n i
-stands ls n i h = record {
-  within = h.0;
-  is = first_some ls n i h;
-  cut = first_removed ls n i h;
-  new = λ x e. first-set ls x i (subst (λ (m : ℕ). First ls m (Some i)) (sym e) h);
-}
-
-pub missing : (ls : Ranks) (n : ℕ) → First ls n None → Missing ls n
-missing ls n h =
-    let e = first-none ls n h in
-    record { is = e; cut = without-none ls n e; new = λ x q. sym (renewed-none ls x (ap (find ls) q ∙ e)) }
+  pub first_place : (ls : Ranks) → apart ls ≡ true → Place ls n (position (has n) ls)
+  first_place ls a = placed ls (ltb (place ls) (length ls)) a refl

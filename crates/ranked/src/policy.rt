@@ -10,7 +10,7 @@ pub trait Replacement {
 }
 
 /// First in, first out: the block that was put longest ago leaves.
-#[derive(Clone, Copy)]
+#[derive(Clone, Copy, PartialEq, Eq, Debug)]
 pub struct Fifo;
 
 impl Replacement for Fifo {
@@ -22,7 +22,7 @@ impl Replacement for Fifo {
 }
 
 /// Least recently used: the block that was put or touched longest ago leaves.
-#[derive(Clone, Copy)]
+#[derive(Clone, Copy, PartialEq, Eq, Debug)]
 pub struct Lru;
 
 impl Replacement for Lru {

@@ -1,15 +1,14 @@
 -- The first place that has the block.
-use Rattle.std.proofs.Common.{Some, None, rules}
-use borrow.Author.Rules.{get_or_read}
-use Rattle.ranked.proofs.Places.{First, stands, missing}
+use Rattle.std.proofs.Common.{sym, subst, rules, tests}
+use Rattle.std.proofs.lemmas.Iterator.{YieldsList-from_slice}
+use Rattle.std.proofs.lemmas.Iterator.Search.{position_from_yields_List}
+use Rattle.ranked.specs.Ranked.{Place}
+use Rattle.ranked.proofs.Places.{has, first_place}
 use Rattle.ranked.proofs.ranked.Ranked.position.Goals as goal
-
-pub returns-then-index-block : goal.returns-then-index-block
-returns-then-index-block g c =
-    let h : First c.args.self.now.held.items c.args.block (Some c.loop-i.i) = search (rules, get_or_read) in
-    stands c.args.self.now.held.items c.args.block c.loop-i.i h
 
 pub returns : goal.returns
 returns g c =
-    let h : First c.args.self.now.held.items c.args.block None = search rules in
-    missing c.args.self.now.held.items c.args.block h
+    let ls = c.args.self.now.held.items in
+    let n = c.args.block in
+    let first = position_from_yields_List (has n) _ _ c.position.result c.position.ensures.ran (YieldsList-from_slice ls cc) (λ x b q k. search (rules, tests)) in
+    subst (λ r. Place ls n r) (sym first) (first_place n ls c.args.self.now.alone)
