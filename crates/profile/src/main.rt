@@ -19,35 +19,27 @@ struct Row {
 
 impl fmt::Display for Row {
     fn fmt<W: fmt::Write>(&self, f: &mut fmt::Formatter<W>) -> fmt::Result {
-        let number = self.number;
-        let block = self.block;
-        let level = self.access.level;
-        match self.access.left {
-            Some(left) => write!(f, "{number}\t{block}\t{level}\t{left}"),
-            None => write!(f, "{number}\t{block}\t{level}\t-"),
+        let Row {
+            number,
+            block,
+            access,
+        } = *self;
+        let level = access.level.unwrap_or(0);
+        write!(f, "{number}\t{block}\t{level}\t")?;
+        match access.left {
+            Some(left) => write!(f, "{left}"),
+            None => f.write_str("-"),
         }
-    }
-}
-
-fn without_line_feed(line: &[u8]) -> &[u8] {
-    match line {
-        [front @ .., b'\n'] => front,
-        _ => line,
     }
 }
 
 // Reads to the end of the input; the answer is how many lines were bad.
 fn replay(rt: &HostRuntime, profile: &mut Profile<Caches>) -> io::Result<u64> {
-    let mut input = BufReader::new(rt.alloc(), rt.stdin())?;
-    let mut line: Vec<u8> = Vec::new(rt.alloc());
+    let input = BufReader::new(rt.alloc(), rt.stdin())?;
     let mut number = 0u64;
     let mut bad = 0u64;
-    for place in 1..u64::MAX {
-        line.clear();
-        if input.read_until(b'\n', &mut line)? == 0 {
-            break;
-        }
-        match block_number(without_line_feed(line.as_slice())) {
+    for (place, line) in (1u64..).zip(input.split(rt.alloc(), b'\n')) {
+        match block_number(line?.as_slice()) {
             Ok(block) => {
                 number = number.saturating_add(1);
                 let access = profile.access(block);
@@ -69,10 +61,10 @@ fn replay(rt: &HostRuntime, profile: &mut Profile<Caches>) -> io::Result<u64> {
 
 fn summarize(rt: &HostRuntime, profile: &Profile<Caches>, bad: u64) -> io::Result<()> {
     for level in 1..=profile.depth() {
-        let hits = profile.served(level);
+        let hits = profile.served(Some(level));
         println!(rt; "level {level}\t{hits}")?;
     }
-    let misses = profile.served(0);
+    let misses = profile.served(None);
     println!(rt; "misses\t{misses}")?;
     if bad > 0 {
         println!(rt; "bad lines\t{bad}")?;
@@ -80,13 +72,9 @@ fn summarize(rt: &HostRuntime, profile: &Profile<Caches>, bad: u64) -> io::Resul
     Ok(())
 }
 
-fn run(rt: &HostRuntime) -> anyhow::Result<()> {
-    let mut profile = Profile::new(two_levels(rt.alloc())?);
-    let bad = replay(rt, &mut profile)?;
-    summarize(rt, &profile, bad)?;
-    Ok(())
-}
-
 fn main(rt: HostRuntime) -> anyhow::Result<()> {
-    run(&rt)
+    let mut profile = Profile::new(two_levels(rt.alloc())?);
+    let bad = replay(&rt, &mut profile)?;
+    summarize(&rt, &profile, bad)?;
+    Ok(())
 }

@@ -1,5 +1,5 @@
 -- An access hits just where its block was accessed before and has not left since.
-use Rattle.std.proofs.Common.{◌≡◌, ℕ, zero, suc, ◌≤◌, Bool, true, false, cond, eqb, List, [], ◌∷◌, is_some, Some, None, Option, sym, refl, ap, ◌∙◌, subst, arith}
+use Rattle.std.proofs.Common.{◌≡◌, ℕ, Bool, true, false, cond, eqb, List, [], ◌∷◌, is_some, Some, None, Option, sym, refl, ap, ◌∙◌, subst, arith}
 use Rattle.std.proofs.lemmas.Bool.Decides.{nat_tests}
 use Rattle.device.specs.Device.{after}
 use Rattle.parts.specs.declared.mark.Mark.{Mark}
@@ -8,10 +8,10 @@ use Rattle.parts.specs.declared.line.Line.{Line}
 use Rattle.parts.specs.Marks.{mark_of}
 use Rattle.tier.specs.Meaning.{TierMeaning, put, take, touch, clear, Holding, look_of, out_of, put_answer, Lawful}
 use Rattle.tier.specs.Holdings.{bare-held}
-use Rattle.moves.specs.Moves.{given, put_back, put_back_out, raised, raised_out}
+use Rattle.moves.specs.Moves.{given, put_back, put_back_out}
 use Rattle.profiling.specs.declared.Access.{Access}
 use Rattle.profiling.specs.Access.{access, next_by, answer_by, accessed, answer, place_of}
-use Rattle.profiling.specs.Resident.{is_block, noted, HitsTold}
+use Rattle.profiling.specs.Resident.{noted, HitsTold}
 
 abbrev held : TierMeaning → ℕ → Bool
 held m b = is_some (look_of m b)
@@ -78,6 +78,8 @@ hits_told (n ∷ ns) m ok cached same =
     (t.hit ∙ sym (same n), hits_told ns (accessed m n) t.lawful (noted cached n (answer m n)) (λ b. grind (arith, same b, t.noted_so b)))
 
 -- from a tier that was cleared
+pub cleared : (m x : TierMeaning) → Lawful m → x ≡ after m clear → Lawful x
+cleared m x ok e = subst Lawful (sym e) (λ cs. ok (clear ∷ cs))
+
 pub cleared_told : (m x : TierMeaning) → Lawful m → x ≡ after m clear → (ns : List ℕ) → HitsTold x (λ _. false) ns
-cleared_told m x ok e ns =
-    subst (λ (y : TierMeaning). HitsTold y (λ _. false) ns) (sym e) (hits_told ns (after m clear) (λ cs. ok (clear ∷ cs)) (λ _. false) (λ b. sym (ap is_some ((ok []).clear_gone b))))
+cleared_told m x ok e ns = hits_told ns x (cleared m x ok e) (λ _. false) (λ b. grind (arith, (ok []).clear_gone b, e))

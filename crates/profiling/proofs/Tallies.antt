@@ -1,13 +1,12 @@
 -- The counts are those of the accesses.
-use Rattle.std.proofs.Common.{◌≡◌, ℕ, zero, suc, ◌+◌, ◌<◌, ◌≤◌, min, Bool, true, false, cond, eqb, ltb, List, [], ◌∷◌, length, get_or, set, sym, refl, ap, ◌∙◌, arith, is_some, Some, None, Option, subst, nat_eq, length-set}
+use Rattle.std.proofs.Common.{◌≡◌, ℕ, ◌+◌, ◌≤◌, min, true, cond, List, [], ◌∷◌, length, ap, ◌∙◌, arith, is_some, Some, None, Option, nat_eq}
 use Rattle.std.proofs.lemmas.Grind.{common_steps}
-use Rattle.std.proofs.lemmas.Bool.Decides.{nat_tests}
 use Rattle.std.specs.Option.{option_eq}
 use Rattle.device.specs.Device.{after}
 use Rattle.tier.specs.Meaning.{TierMeaning, clear, Lawful}
-use Rattle.profiling.specs.Access.{accessed, answer, place_of, counted, count_of, counted_at, count_at}
+use Rattle.profiling.specs.Access.{accessed, answer, place_of, counted, count_of}
 use Rattle.profiling.specs.Tallies.{tallied, served_by, CountsAll}
-use Rattle.profiling.proofs.Hits.{told}
+use Rattle.profiling.proofs.Hits.{told, cleared}
 
 abbrev most : ℕ
 most = 18446744073709551615
@@ -36,8 +35,7 @@ abbrev zeros : List ℕ
 zeros = 0 ∷ 0 ∷ 0 ∷ 0 ∷ 0 ∷ []
 
 zeros-at : (level : Option ℕ) → count_of zeros level ≡ 0
-zeros-at None = refl
-zeros-at (Some i) = grind (arith, common_steps)
+zeros-at level = grind (arith, common_steps)
 
 pub counts_all : (m x : TierMeaning) → Lawful m → x ≡ after m clear → (counts : List ℕ) → counts ≡ zeros → CountsAll x counts
-counts_all m x ok e counts z ns level = grind (arith, zeros-at level, counts_on ns x (subst Lawful (sym e) (λ cs. ok (clear ∷ cs))) counts level (ap length z))
+counts_all m x ok e counts z ns level = grind (arith, zeros-at level, counts_on ns x (cleared m x ok e) counts level (ap length z))

@@ -1,5 +1,5 @@
 -- What an access does to the caches of one core, and what it answers.
-use Rattle.std.specs.Prelude.{ℕ, ◌+◌, min, cond, List, Some, None, Option, nat_lt, slice_index, slice_set}
+use Rattle.std.specs.Prelude.{ℕ, ◌+◌, min, cond, List, Some, None, Option, nat_lt, ◌&&◌, slice_index, slice_set}
 use Rattle.std.specs.Option.{option_map}
 use Rattle.device.specs.Device.{after}
 use Rattle.parts.specs.declared.mark.Mark.TheVariants.{Shared}
@@ -28,10 +28,10 @@ accessed m n = next_by m n (look_of m n)
 abbrev pub answer : TierMeaning → ℕ → Access
 answer m n = answer_by m n (look_of m n)
 
--- where the accesses that a level served are counted: the misses at 0, each level from 1 to 4 at its number, no other level
+-- where accesses are counted: misses at 0, those served at a level from 1 to 4 at its number; no other level serves any
 abbrev pub place_of : Option ℕ → Option ℕ
 place_of None = Some 0
-place_of (Some level) = cond (nat_lt 0 level) (cond (nat_lt level 5) (Some level) None) None
+place_of (Some level) = cond (nat_lt 0 level && nat_lt level 5) (Some level) None
 
 -- one more at a place; a count stops at the largest number that fits
 abbrev pub counted_at : List ℕ → Option ℕ → List ℕ

@@ -26,11 +26,11 @@ pub struct Access {
 #[derive(Drop)]
 pub struct Profile<T> {
     tier: T,
-    // By level; misses at 0. A count stops at the largest number that fits.
+    // The misses first, then the hits of levels 1 to 4. A count stops at the largest number that fits.
     counts: [u64; 5],
 }
 
-// The place of a level's count: the misses at 0, and none beyond level 4.
+// Where the accesses that a level served are counted, or, for none, the misses.
 fn place(level: Option<u8>) -> Option<usize>
     ensures { result ≡ place_of level }
 {
@@ -66,7 +66,7 @@ fn serve<T: Tier>(tier: &mut T, block: u16) -> Access
 
 impl<T: Tier> Profile<T> {
     /// The profile of a core whose caches are cleared. From then on an access hits just where its block was accessed before and
-    /// has not left since, and each level's count is the number of accesses that it served.
+    /// has not left since, and each count is the number of accesses that its level served, or that missed.
     pub fn new(tier: T) -> Profile<T>
         ensures tier { T.Tier.meaning result.tier ≡ after (T.Tier.meaning tier) clear }
         ensures counts { result.counts ≡ 0 ∷ 0 ∷ 0 ∷ 0 ∷ 0 ∷ [] }
@@ -107,13 +107,10 @@ impl<T: Tier> Profile<T> {
         self.tier.depth()
     }
 
-    /// How many accesses a level served, or how many were misses; at level 0 and beyond level 4 there are none.
+    /// How many accesses a level served; of none, how many missed. Level 0 and levels beyond 4 serve no access.
     pub fn served(&self, level: Option<u8>) -> u64
         ensures { result ≡ count_of self.now.counts level }
     {
-        match place(level) {
-            Some(place) => self.counts[place],
-            None => 0,
-        }
+        place(level).map_or(0, |place| self.counts[place])
     }
 }
