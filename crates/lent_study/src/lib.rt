@@ -14,32 +14,26 @@ use study::quote::Quote;
 use study::stages::Draft;
 use study::turn::Turn;
 
-// The study, which gives the table back.
+// The study, which gives the table back: a lender knows what its table holds only by a reference that is returned.
 fn lend<'a, R: Row + Drop>(
     row: R,
     table: &'a mut [Cell],
     prices: Prices,
     schedule: &mut [Turn],
-    quote: &mut Result<Quote, Refusal>,
-) -> &'a mut [Cell]
-    ensures named { result.ghost_name ≡ table.entry.ghost_name }
-    ensures study { LentStudy (weighing prices) (R.Row.cores row) table.entry.ghost_name table.old result.now schedule.old schedule.new quote.new }
+) -> (&'a mut [Cell], Result<Quote, Refusal>)
+    ensures named { result.0.ghost_name ≡ table.entry.ghost_name }
+    ensures study { LentStudy (weighing prices) (R.Row.cores row) table.entry.ghost_name table.old result.0.now schedule.old schedule.new result.1 }
 {
     let mut draft = Draft::new(row, Flat::over(table));
     if let Err(refusal) = draft.weigh(prices) {
-        *quote = Err(refusal);
         let (_, memory) = draft.into_parts();
-        return memory.into_table();
+        return (memory.into_table(), Err(refusal));
     }
     match draft.simulate(schedule) {
-        Ok(settled) => {
-            *quote = Ok(settled.quote);
-            settled.memory.into_table()
-        }
+        Ok(settled) => (settled.memory.into_table(), Ok(settled.quote)),
         Err(refused) => {
-            *quote = Err(refused.refusal);
             let (_, memory) = refused.draft.into_parts();
-            memory.into_table()
+            (memory.into_table(), Err(refused.refusal))
         }
     }
 }
@@ -54,7 +48,6 @@ pub fn simulate_in_table<R: Row + Drop>(
 ) -> Result<Quote, Refusal>
     ensures { (a : ℕ) × LentStudy (weighing prices) (R.Row.cores row) a table.old table.new schedule.old schedule.new result }
 {
-    let mut quote = Err(Refusal::NoBlocks);
-    let _ = lend(row, table, prices, schedule, &mut quote);
+    let (_, quote) = lend(row, table, prices, schedule);
     quote
 }

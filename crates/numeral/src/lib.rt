@@ -28,6 +28,7 @@ pub fn block_number(bytes: &[u8]) -> Result<u16, BadNumber>
     read(bytes)
 }
 
+// The code apart from the law, which is proved once of whatever is answered.
 fn read(bytes: &[u8]) -> Result<u16, BadNumber>
     ensures { result ≡ number_of bytes.now }
 {

@@ -76,6 +76,7 @@ impl<T: Tier> Profile<T> {
         Profile::idle(tier)
     }
 
+    // The code apart from the laws of whole runs, so that an edit of it is refused for its own sake.
     fn idle(mut tier: T) -> Profile<T>
         ensures tier { T.Tier.meaning result.tier ≡ after (T.Tier.meaning tier) clear }
         ensures counts { result.counts ≡ 0 ∷ 0 ∷ 0 ∷ 0 ∷ 0 ∷ [] }

@@ -27,6 +27,7 @@ impl<U: Tier, L: Tier> Pile<U, L> {
         Pile::stack(upper, lower)
     }
 
+    // The code apart from the law of whole runs, so that an edit of it is refused for its own sake.
     fn stack(mut upper: U, mut lower: L) -> Pile<U, L>
         ensures { pile (U.Tier.meaning result.upper) (L.Tier.meaning result.lower) ≡ pile (after (U.Tier.meaning upper) clear) (after (L.Tier.meaning lower) clear) }
     {
