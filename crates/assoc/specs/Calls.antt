@@ -1,13 +1,13 @@
--- The sets of the code are good.
-use Rattle.std.specs.Prelude.{◌≡◌, ℕ, zero, suc, ◌%◌, ◌<◌, true, List, [], ◌∷◌, length, vec_items, vec_len}
+-- What the sets of the code mean, and that they are good.
+use Rattle.std.specs.Prelude.{ℕ, zero, suc, ◌<◌, true, List, [], ◌∷◌, length, vec_items}
 use Rattle.std.proofs.Common.{arith}
-use Rattle.std.proofs.lemmas.List.{length-map}
+use Rattle.std.proofs.lemmas.List.{length-map, map-set, get_or-map}
 use Rattle.tier.specs.Meaning.{Lawful}
 use Rattle.ranked.specs.declared.policy.Lru.{Lru}
 use Rattle.ranked.specs.declared.ranked.Ranked.{Ranked}
 use Rattle.ranked.specs.RankedLaws.{ranked-lawful}
 use Rattle.assoc.specs.declared.set_associative.SetAssociative.{SetAssociative}
-use Rattle.assoc.specs.Sets.{nth, index, lru_of, lrus_of}
+use Rattle.assoc.specs.Sets.{nth, lru_of, lrus_of}
 use Rattle.assoc.specs.SetAssociative.{sets_of}
 use Rattle.assoc.specs.SetsLaws.{Good}
 
@@ -25,3 +25,6 @@ good_of t =
       lawful = λ i lt. lrus_lawful (vec_items t.sets) i (omega arith);
       placed = t.placed;
     }
+
+-- the meaning of one set, and of all after a call of one
+pub ruleset set_means = (length-map, map-set, get_or-map)

@@ -37,6 +37,16 @@ impl SetAssociative {
         ensures built { Builds meaning_of result (built sets ways) }
         ensures law { IfOk result (λ t. OldestLeaves true sets (meaning_of t)) }
     {
+        SetAssociative::sized(heap, sets, ways)
+    }
+
+    fn sized(
+        heap: Global,
+        sets: usize,
+        ways: usize,
+    ) -> Result<SetAssociative, BuildError<SetAssociative>>
+        ensures { Builds meaning_of result (built sets ways) }
+    {
         let fits = (1..=MOST_SETS).contains(&sets) && (1..=MOST_WAYS).contains(&ways);
         BuildError::build(fits, (sets, ways), (1, 1), |(sets, ways)| {
             SetAssociative::cleared(heap, sets, ways)
@@ -63,6 +73,7 @@ impl SetAssociative {
     }
 }
 
+#[tactic(auto, using(crate::specs::Calls::set_means))]
 impl Tier for SetAssociative {
     ghost use Rattle.assoc.specs.SetAssociative.{sets_of, meaning_of};
     ghost use Rattle.assoc.specs.SetsLaws.{sets_lawful};

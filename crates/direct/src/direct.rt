@@ -29,6 +29,12 @@ impl Direct {
         ensures built { Builds direct_of result (built lines) }
         ensures law { IfOk result (λ d. Always (DirectMapped lines) (direct_of d)) }
     {
+        Direct::sized(heap, lines)
+    }
+
+    fn sized(heap: Global, lines: usize) -> Result<Direct, BuildError<Direct>>
+        ensures { Builds direct_of result (built lines) }
+    {
         let fits = (1..=MOST_LINES).contains(&lines);
         BuildError::build(fits, lines, 1, |lines| Direct::cleared(heap, lines))
     }
@@ -64,7 +70,9 @@ impl Tier for Direct {
 
     fn look(&self, block: u16) -> Option<(u8, u32, u8)> {
         let slot = self.slot(block);
-        self.lines[slot].filter(|line| line.block == block).map(Line::shown)
+        self.lines[slot]
+            .filter(|line| line.block == block)
+            .map(Line::shown)
     }
 
     fn put(&mut self, line: Line) -> Result<Option<Line>, Refusal> {

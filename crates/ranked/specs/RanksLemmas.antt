@@ -1,5 +1,5 @@
 -- Lines by age: what is found in them after an edit, and that no block stands twice.
-use Rattle.std.specs.Prelude.{◌≡◌, ℕ, suc, true, cond, [], ◌∷◌, ◌++◌, length, Some, None, ◌≢◌, refl}
+use Rattle.std.specs.Prelude.{◌≡◌, ℕ, true, cond, [], ◌∷◌, ◌++◌, Some, None, ◌≢◌, refl}
 use Rattle.std.proofs.Common.{ap, arith, eq-eqb}
 use Rattle.std.proofs.lemmas.Bool.Decides.{nat_tests}
 use Rattle.parts.specs.declared.line.Line.{Line}

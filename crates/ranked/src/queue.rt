@@ -18,6 +18,12 @@ impl Ranked<Fifo> {
         ensures built { Builds queue_of result (built false lines) }
         ensures law { IfOk result (λ q. OldestLeaves false 1 (queue_of q)) }
     {
+        Queue::sized(heap, lines)
+    }
+
+    fn sized(heap: Global, lines: usize) -> Result<Queue, BuildError<Queue>>
+        ensures { Builds queue_of result (built false lines) }
+    {
         Ranked::with_policy(heap, Fifo, lines)
     }
 }
