@@ -46,7 +46,8 @@ fn agrees<T: Tier>(tier: &mut T, step: Step) -> bool {
             Ok(left) => left.map(|line| line.block) == out,
             Err(_) => false,
         },
-        Step::PutRefused(block, number) => tier.put(modified(block)).map_err(u8::from) == Err(number),
+        Step::PutRefused(block, number) => tier.put(modified(block)).map_err(u8::from)
+            == Err(number),
         Step::Look(block, shown) => tier.look(block) == shown,
         Step::Take(block, shown) => tier.take(block) == shown,
         Step::Change(block, answer) => tier.change(modified(block)).map_err(u8::from) == answer,
@@ -185,7 +186,10 @@ fn sets_are_limited(rt: HostRuntime) -> Result<(), Fail> {
         (17, 4, Some(12)),
         (16, 5, Some(12)),
     ] {
-        assert_eq!(rt; refusal(SetAssociative::new(rt.alloc(), sets, ways))?, number);
+        assert_eq!(rt;
+            refusal(SetAssociative::new(rt.alloc(), sets, ways))?,
+            number
+        );
     }
     Ok(())
 }

@@ -38,7 +38,9 @@ fn deep_core(heap: Global) -> Result<Core<ThreeLevels>, AllocError> {
 }
 
 // Two rows side by side, each as the closure makes it.
-fn doubled<R: Row + Drop, F: Fn() -> Result<R, AllocError>>(row: F) -> Result<Pair<R, R>, AllocError>
+fn doubled<R: Row + Drop, F: Fn() -> Result<R, AllocError>>(
+    row: F,
+) -> Result<Pair<R, R>, AllocError>
     requires { F.IsAlwaysCallable row }
 {
     Ok(Pair::new(row()?, row()?))

@@ -31,7 +31,9 @@ fn one(heap: Global) -> Result<Core<Direct>, AllocError> {
 }
 
 // Two rows side by side, each as the closure makes it.
-fn doubled<R: Row + Drop, F: Fn() -> Result<R, AllocError>>(row: F) -> Result<Pair<R, R>, AllocError>
+fn doubled<R: Row + Drop, F: Fn() -> Result<R, AllocError>>(
+    row: F,
+) -> Result<Pair<R, R>, AllocError>
     requires { F.IsAlwaysCallable row }
 {
     Ok(Pair::new(row()?, row()?))
@@ -52,11 +54,7 @@ fn opening<R: Row + Drop>(row: R) -> (Option<u8>, u16, Option<u32>) {
         Err(refused) => {
             let number = u8::from(refused.refusal);
             let (row, memory) = refused.draft.into_parts();
-            (
-                Some(number),
-                row.count(),
-                memory.ask(0).unwrap_or(None),
-            )
+            (Some(number), row.count(), memory.ask(0).unwrap_or(None))
         }
     }
 }
@@ -159,16 +157,13 @@ fn steps_are_limited(rt: HostRuntime) -> Result<(), Fail> {
 
 // The first turn with another answer or total, if there is one.
 fn first_wrong(turns: &[Turn], expected: &[(Result<Answer, Refusal>, u64)]) -> Option<usize> {
-    turns
-        .iter()
-        .zip(expected.iter())
-        .position(|(turn, (answer, total))| {
-            turn.played
-                != Some(Played {
-                    answer: *answer,
-                    total: *total,
-                })
-        })
+    turns.iter().zip(expected.iter()).position(|(turn, (answer, total))| {
+        turn.played
+            != Some(Played {
+                answer: *answer,
+                total: *total,
+            })
+    })
 }
 
 fn nine<R: Row + Drop>(rt: &impl Abort, row: R) {
