@@ -4,6 +4,7 @@
 ghost use Rattle.std.specs.Prelude.{◌≡◌};
 ghost use Rattle.examples.specs.Examples.{Examples};
 
+// A function for each theorem that a contract names: a theorem is no parameter.
 /// The examples hold of the definitions; the answer is how many there are.
 pub fn examples_hold() -> u8
     ensures count { result ≡ 7 }

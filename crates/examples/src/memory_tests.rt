@@ -7,6 +7,7 @@ use std::test::Fail;
 use window::Window;
 
 // A call of a memory and what it has to answer.
+// Data and not closures, so that a test reads as a table, and one table can be played on any kind.
 #[derive(Clone, Copy)]
 enum Step {
     // The stamp, or nothing of a stale block.

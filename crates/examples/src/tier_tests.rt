@@ -11,6 +11,7 @@ use tier::Tier;
 use tier::pile::Pile;
 
 // A call of a tier and what it has to answer; block n is put as shared with stamp n.
+// Data and not closures, so that a test reads as a table, and one table can be played on any kind.
 #[derive(Clone, Copy)]
 enum Step {
     // The block that is given out.

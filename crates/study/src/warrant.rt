@@ -2,6 +2,7 @@
 ghost use Rattle.std.specs.Prelude.{◌≡◌};
 ghost use Rattle.study.specs.Warrant.{Warrant};
 
+// A function for each theorem that a contract names: a theorem is no parameter.
 /// Of any lawful tiers and memory and every list of calls: piles are tiers, cores and memory are coherent, every read
 /// delivered is honest, and the counts are those of the answers. The answer is how many parts that has.
 pub fn warrant_stands() -> u8

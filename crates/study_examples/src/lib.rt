@@ -5,6 +5,7 @@ ghost use Rattle.std.specs.Prelude.{◌≡◌};
 ghost use Rattle.study_examples.specs.StudyExamples.{StudyExamples};
 ghost use Rattle.study_examples.specs.Premises.{Premises};
 
+// A function for each theorem that a contract names: a theorem is no parameter.
 /// The examples of the study hold of the definitions; the answer is how many there are.
 pub fn study_examples_hold() -> u8
     ensures count { result ≡ 8 }

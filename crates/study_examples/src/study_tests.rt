@@ -83,13 +83,7 @@ fn weighs<R: Row + Drop>(rt: &impl Abort, row: R) {
         wm: 1000,
     };
     assert_eq!(rt; draft.weigh(most), Ok(()));
-    let none = Prices {
-        w1: 0,
-        w2: 0,
-        w3: 0,
-        w4: 0,
-        wm: 0,
-    };
+    let none = Prices::default();
     let high = [
         Prices { w1: 1001, ..none },
         Prices { w2: 1001, ..none },
@@ -157,6 +151,7 @@ fn first_wrong(turns: &[Turn], expected: &[(Result<Answer, Refusal>, u64)]) -> O
     })
 }
 
+// The calls of the walkthrough, written out again: a test takes no values from a program.
 fn nine<R: Row + Drop>(rt: &impl Abort, row: R) {
     let mut schedule = [
         Turn::new(Call::Read(0, 3)),
