@@ -40,6 +40,7 @@ impl SetAssociative {
         SetAssociative::sized(heap, sets, ways)
     }
 
+    // The code apart from the law of whole runs, so that an edit of it is refused for its own sake.
     fn sized(
         heap: Global,
         sets: usize,

@@ -32,6 +32,7 @@ impl Direct {
         Direct::sized(heap, lines)
     }
 
+    // The code apart from the law of whole runs, so that an edit of it is refused for its own sake.
     fn sized(heap: Global, lines: usize) -> Result<Direct, BuildError<Direct>>
         ensures { Builds direct_of result (built lines) }
     {

@@ -21,6 +21,7 @@ impl Ranked<Fifo> {
         Queue::sized(heap, lines)
     }
 
+    // The code apart from the law of whole runs, so that an edit of it is refused for its own sake.
     fn sized(heap: Global, lines: usize) -> Result<Queue, BuildError<Queue>>
         ensures { Builds queue_of result (built false lines) }
     {
