@@ -76,6 +76,7 @@ impl<'a> Memory for Flat<'a> {
 
     fn size(&self) -> u32 {
         let cells = self.table.len();
+        // `as` is proved to lose nothing: `try_from` would bring an error that cannot come
         if cells > MOST_CELLS { 0 } else { cells as u32 }
     }
 

@@ -12,7 +12,8 @@ use std::io::Write;
 use study::stages::Draft;
 use study::turn::Turn;
 
-// A line of the report: the number of the call, the word of its answer, the value, and the total.
+// A line of the report: the number of the call, the word of its answer, the value, and the total. No `Display`: a word is
+// bytes, and a formatter takes text.
 fn print_turn(rt: &HostRuntime, number: usize, turn: &Turn) -> io::Result<()> {
     if let Some(played) = turn.played {
         let value = value_of(played.answer);

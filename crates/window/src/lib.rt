@@ -43,6 +43,7 @@ impl<M: Memory> Window<M> {
         ensures { result ≡ (if nat_lt block (window_size self.now.start self.now.length (M.Memory.meaning self.now.below)) then Ok (self.now.start + block) else Err NoSuchBlock) }
     {
         if u32::from(block) < self.size() {
+            // `as` is proved to lose nothing: `try_from` would bring an error that cannot come
             Ok((self.start + u32::from(block)) as u16)
         } else {
             Err(Refusal::NoSuchBlock)

@@ -21,6 +21,7 @@ fn zero<M: Memory>(memory: &mut M)
 {
     let size = memory.size();
     for block in 0..size {
+        // `as` is proved to lose nothing: `try_from` would bring an error that cannot come
         store(memory, block as u16, 0);
     }
 }
