@@ -43,10 +43,11 @@ fn modified(block: u16) -> Line {
 
 fn agrees<T: Tier>(tier: &mut T, step: Step) -> bool {
     match step {
-        Step::Put(block, out) => match tier.put(shared(block)) {
-            Ok(left) => left.map(|line| line.block) == out,
-            Err(_) => false,
-        },
+        Step::Put(block, out) => {
+            tier.put(shared(block))
+                .map(|left| left.map(|line| line.block))
+                == Ok(out)
+        }
         Step::PutRefused(block, number) => tier.put(modified(block)).map_err(u8::from)
             == Err(number),
         Step::Look(block, shown) => tier.look(block) == shown,
@@ -161,10 +162,10 @@ fn refusal<T: Tier + Drop>(answer: Result<T, BuildError<T>>) -> Result<Option<u8
     let number = error.number();
     let mut tier = error.into_tier()?;
     let steps = [Step::Put(0, None), Step::Put(1, Some(0))];
-    match first_wrong(&mut tier, &steps) {
-        None => Ok(number),
-        Some(_) => Err(Fail::new("not just one line")),
+    if first_wrong(&mut tier, &steps).is_some() {
+        return Err(Fail::new("not just one line"));
     }
+    Ok(number)
 }
 
 #[test]

@@ -26,7 +26,8 @@ pub struct Access {
 #[derive(Drop)]
 pub struct Profile<T> {
     tier: T,
-    // The misses first, then the hits of levels 1 to 4. A count stops at the largest number that fits.
+    // The misses first, then the hits of levels 1 to 4: one array, as the contract of `new` shows it. A count stops at the
+    // largest number that fits.
     counts: [u64; 5],
 }
 

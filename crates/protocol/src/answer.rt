@@ -67,6 +67,7 @@ pub fn value_of(outcome: Result<Answer, Refusal>) -> u32
 
 impl Word {
     /// The word as a report spells it.
+    // Bytes and no `Display`, by a rule of the project: words are fixed byte strings.
     pub fn bytes(self) -> &'static [u8]
         ensures { result.now ≡ spelling self }
     {

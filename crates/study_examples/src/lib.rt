@@ -14,6 +14,7 @@ pub fn study_examples_hold() -> u8
     8
 }
 
+// As above: a theorem is no parameter.
 /// What is shipped meets the premises of what is proved of every study; the answer is how many there are.
 pub fn premises_met() -> u8
     ensures count { result ≡ 12 }

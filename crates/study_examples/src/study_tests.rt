@@ -66,10 +66,7 @@ fn quote<R: Row + Drop, M: Memory + Drop>(
     draft: Draft<R, M>,
     schedule: &mut [Turn],
 ) -> Option<Quote> {
-    match draft.simulate(schedule) {
-        Ok(settled) => Some(settled.quote),
-        Err(_) => None,
-    }
+    draft.simulate(schedule).ok().map(|settled| settled.quote)
 }
 
 fn weighs<R: Row + Drop>(rt: &impl Abort, row: R) {
@@ -126,13 +123,11 @@ fn accepted<R: Row, M: Memory>(run: &mut Run<R, M>) -> Option<(u32, u8)> {
 
 fn steps<R: Row + Drop>(rt: &impl Abort, row: R) -> Result<(), Fail> {
     let mut table = [OLD];
-    match Draft::new(row, Flat::over(&mut table)).open() {
-        Ok(mut run) => {
-            assert_eq!(rt; accepted(&mut run), Some((1_000_000, 4)));
-            Ok(())
-        }
-        Err(_) => Err(Fail::new("refused")),
-    }
+    let mut run = Draft::new(row, Flat::over(&mut table))
+        .open()
+        .map_err(|_| Fail::new("refused"))?;
+    assert_eq!(rt; accepted(&mut run), Some((1_000_000, 4)));
+    Ok(())
 }
 
 #[test]
