@@ -49,9 +49,8 @@ impl SetAssociative {
         ensures { Builds meaning_of result (built sets ways) }
     {
         let fits = (1..=MOST_SETS).contains(&sets) && (1..=MOST_WAYS).contains(&ways);
-        BuildError::build(fits, (sets, ways), (1, 1), |(sets, ways)| {
-            SetAssociative::cleared(heap, sets, ways)
-        })
+        let (sets, ways) = if fits { (sets, ways) } else { (1, 1) };
+        BuildError::answer(fits, SetAssociative::cleared(heap, sets, ways))
     }
 
     fn cleared(heap: Global, count: usize, ways: usize) -> Result<SetAssociative, AllocError>

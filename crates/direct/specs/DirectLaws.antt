@@ -4,6 +4,7 @@ use Rattle.std.proofs.Common.{sym, ap, subst, ◌∙◌, mod-lt, arith, length-s
 use Rattle.std.proofs.Math.Decide.{ℕ_discrete}
 use Rattle.std.proofs.lemmas.List.{length-replicate}
 use Rattle.std.specs.Option.{option_map}
+use Rattle.std.proofs.lemmas.Option.{same_Some}
 use Rattle.device.specs.Device.{Always}
 use Rattle.device.specs.Laws.{device_always}
 use Rattle.parts.specs.declared.mark.Mark.{Mark}
@@ -11,7 +12,7 @@ use Rattle.parts.specs.declared.line.Line.{Line}
 use Rattle.parts.specs.Lines.{shown_of}
 use Rattle.parts.specs.Marks.{mark_number}
 use Rattle.tier.specs.Meaning.{TierCall, put, take, change, touch, clear, Holding, line, if_held, bare, TierLaws, Lawful}
-use Rattle.tier.specs.Options.{never, none-some, some_same, is_some_lem, some_of}
+use Rattle.tier.specs.Options.{never, none-some, is_some_lem, some_of}
 use Rattle.tier.specs.Holdings.{held-some, held_none, mark_low}
 use Rattle.direct.specs.declared.direct.Direct.{Direct}
 use Rattle.direct.specs.Lines.{Lines, slot, at, shows, direct_view, direct_step, direct, empty, Placed}
@@ -30,7 +31,7 @@ shows-other g n e = ap (λ b. cond b (Some (shown_of g)) None) (ne_eqb g.block n
 shown-own : (o : Option Line) (n : ℕ) (h : Holding) → shows o n ≡ Some h → (g : Line) × (o ≡ Some g) × (g.block ≡ n) × (shown_of g ≡ h)
 shown-own None n h e = never h e
 shown-own (Some g) n h e = elim (ℕ_discrete g.block n) [
-  | yes q ↦ (g, refl, q, some_same (shown_of g) h (sym (shows-own g n q) ∙ e))
+  | yes q ↦ (g, refl, q, same_Some (shown_of g) h (sym (shows-own g n q) ∙ e))
   | no q ↦ none-some (shows (Some g) n) h (shows-other g n q) e
 ]
 
@@ -88,7 +89,7 @@ module _ (lines : ℕ) (ls : Lines) (ok : Sound lines ls) where
   sound-set n x h = (ok.0, length-set ls (slot ls n) x ∙ ok.1, placed-set n x h)
 
   sound-line : (n : ℕ) (k : Mark) (s : ℕ) → Sound lines (slice_set ls (slot ls n) (Some (line n k s)))
-  sound-line n k s = sound-set n (Some (line n k s)) (λ g e. ap (λ (h : Line). h.block) (sym (some_same (line n k s) g e)))
+  sound-line n k s = sound-set n (Some (line n k s)) (λ g e. ap (λ (h : Line). h.block) (sym (same_Some (line n k s) g e)))
 
   sound-held : (o : Option Holding) (xs ys : Lines) → Sound lines xs → Sound lines ys → Sound lines (if_held o xs ys)
   sound-held None xs ys p q = q
@@ -176,7 +177,7 @@ module _ (lines : ℕ) (ls : Lines) (ok : Sound lines ls) where
     alone = λ a b ha hb e.
         let x = line_of a ha in
         let y = line_of b hb in
-        let g : x.0 ≡ y.0 = some_same x.0 y.0 (sym x.1 ∙ ap (λ i. get_or ls i None) (slots a b e) ∙ y.1) in
+        let g : x.0 ≡ y.0 = same_Some x.0 y.0 (sym x.1 ∙ ap (λ i. get_or ls i None) (slots a b e) ∙ y.1) in
         sym x.2 ∙ ap (λ (z : Line). z.block) g ∙ y.2;
     ousted = λ n k s b h e.
         let x = line_of b h in

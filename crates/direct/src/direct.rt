@@ -37,7 +37,7 @@ impl Direct {
         ensures { Builds direct_of result (built lines) }
     {
         let fits = (1..=MOST_LINES).contains(&lines);
-        BuildError::build(fits, lines, 1, |lines| Direct::cleared(heap, lines))
+        BuildError::answer(fits, Direct::cleared(heap, if fits { lines } else { 1 }))
     }
 
     fn cleared(heap: Global, lines: usize) -> Result<Direct, AllocError>

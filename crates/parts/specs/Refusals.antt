@@ -19,11 +19,8 @@ abbrev pub tier_of : {X : Type 0} → BuildError X → Result X AllocError
 tier_of (BadSize t) = Ok t
 tier_of NoMemory = Err (record {})
 
--- what a constructor answers, where `Made` tells what the making of a tier of those sizes answers
-abbrev pub Built : {X : Type 0} → Bool → (Result X AllocError → Type 0) → Result X (BuildError X) → Type 0
-Built true Made (Ok t) = Made (Ok t)
-Built true Made (Err (BadSize t)) = ⊥
-Built true Made (Err NoMemory) = Made (Err (record {}))
-Built false Made (Ok t) = ⊥
-Built false Made (Err (BadSize t)) = Made (Ok t)
-Built false Made (Err NoMemory) = Made (Err (record {}))
+-- what a constructor answers, of what was made: a tier of the sizes asked for if they fit, else a tier of one line
+abbrev pub answer_of : {X : Type 0} → Bool → Result X AllocError → Result X (BuildError X)
+answer_of true (Ok t) = Ok t
+answer_of false (Ok t) = Err (BadSize t)
+answer_of fits (Err e) = Err NoMemory

@@ -1,7 +1,7 @@
 //! What a tier refuses.
-ghost use Rattle.std.specs.Prelude.{◌≡◌, if◌then◌else◌};
+ghost use Rattle.std.specs.Prelude.{◌≡◌};
 ghost use Rattle.parts.specs.declared.refusal.BuildError.TheVariants.{NoMemory};
-ghost use Rattle.parts.specs.Refusals.{refusal_number, build_number, tier_of, Built};
+ghost use Rattle.parts.specs.Refusals.{refusal_number, build_number, tier_of, answer_of};
 
 use std::alloc::AllocError;
 
@@ -59,20 +59,15 @@ impl<T> BuildError<T> {
         }
     }
 
-    /// What a constructor answers: a tier of the sizes asked for if they fit, else a refusal with the smallest tier.
-    pub fn build<S: Drop, F: FnOnce(S) -> Result<T, AllocError>>(
-        fits: bool,
-        asked: S,
-        smallest: S,
-        make: F,
-    ) -> Result<T, BuildError<T>>
-        requires { F.pre make (if fits then asked else smallest) }
-        ensures { Built fits (F.post make (if fits then asked else smallest)) result }
+    /// What a constructor answers of the tier that it made: the tier if the sizes asked for fit, else a refusal with it.
+    pub fn answer(fits: bool, made: Result<T, AllocError>) -> Result<T, BuildError<T>>
+        ensures { result ≡ answer_of fits made }
     {
+        let tier = made?;
         if fits {
-            Ok(make(asked)?)
+            Ok(tier)
         } else {
-            Err(BuildError::BadSize(make(smallest)?))
+            Err(BuildError::BadSize(tier))
         }
     }
 }

@@ -3,11 +3,12 @@ use Rattle.std.proofs.Common.{◌≡◌, ℕ, suc, ◌%◌, ◌<◌, ◌≤◌, 
 use native.Mathlib.Decide.{ℕ_discrete}
 use Rattle.std.proofs.lemmas.Bool.Decides.{nat_tests}
 use Rattle.std.specs.Option.{option_map}
+use Rattle.std.proofs.lemmas.Option.{same_Some}
 use Rattle.device.specs.Device.{reach}
 use Rattle.parts.specs.declared.mark.Mark.{Mark}
 use Rattle.parts.specs.declared.line.Line.{Line}
 use Rattle.tier.specs.Meaning.{TierMeaning, TierCall, put, take, change, touch, clear, line, if_held, look_of, out_of}
-use Rattle.tier.specs.Options.{never, some_same}
+use Rattle.tier.specs.Options.{never}
 use Rattle.ranked.specs.Ranks.{Ranks, find, without, renewed, oldest, younger, ousted, spared, holding, if_found, touched, ranked_step, ranked}
 use Rattle.ranked.specs.Ages.{uses, last_use, OldestLeaves}
 use Rattle.ranked.specs.RanksLemmas.{find-block, find-gone}
@@ -112,7 +113,7 @@ rises-step renews ways ls f t ok h clear = omega arith
 pub oldest-first : (f : ℕ → ℕ) (ls : Ranks) (t : ℕ) (g : Line) (b : ℕ) → Rises f 0 ls t → oldest ls ≡ Some g → is_some (find ls b) ≡ true → (b ≡ g.block → ⊥) → f g.block < f b
 oldest-first f [] t g b h o e ne = never g o
 oldest-first f (x ∷ xs) t g b h o e ne =
-    let q : x ≡ g = some_same x g o in
+    let q : x ≡ g = same_Some x g o in
     let nb : x.block ≡ b → ⊥ = λ z. ne (sym z ∙ ap (λ (y : Line). y.block) q) in
     let p = rises_found f (suc (f x.block)) xs t b h.1 (sym (ap (λ y. is_some (cond y (Some x) (find xs b))) (ne_eqb x.block b nb)) ∙ e) in
     subst (λ (y : Line). f y.block < f b) q (omega arith)

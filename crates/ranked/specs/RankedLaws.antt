@@ -3,12 +3,13 @@ use Rattle.std.specs.Prelude.{◌≡◌, ℕ, ◌≤◌, Bool, true, false, cond
 use Rattle.std.proofs.Common.{sym, ap, subst, ◌∙◌, arith}
 use Rattle.std.proofs.Math.Decide.{ℕ_discrete}
 use Rattle.std.specs.Option.{option_map}
+use Rattle.std.proofs.lemmas.Option.{same_Some}
 use Rattle.device.specs.Laws.{device_always}
 use Rattle.parts.specs.declared.mark.Mark.{Mark}
 use Rattle.parts.specs.declared.line.Line.{Line}
 use Rattle.parts.specs.Marks.{mark_number}
 use Rattle.tier.specs.Meaning.{TierCall, put, take, change, touch, clear, Holding, line, bare, TierLaws, Lawful}
-use Rattle.tier.specs.Options.{never, none-some, some_same, some_of}
+use Rattle.tier.specs.Options.{never, none-some, some_of}
 use Rattle.tier.specs.Holdings.{mark_low}
 use Rattle.ranked.specs.Ranks.{Ranks, find, without, oldest, younger, spared, holding, ranked_view, if_found, touched, ranked_step, ranked, apart}
 use Rattle.ranked.specs.RanksLemmas.{find-block, find-without, find-gone, without-none, apart-without, find-push, find-push-other, apart-push, find-renewed, find-renewed-other, renewed-none, apart-renewed, oldest_found, younger-gone, younger-rest, younger-none, apart-younger}
@@ -33,7 +34,7 @@ look-some ls n h e = go (find ls n) refl e
   where
     go : (o : Option Line) → find ls n ≡ o → option_map holding o ≡ Some h → (g : Line) × (find ls n ≡ Some g) × (holding g ≡ h)
     go None p q = never h q
-    go (Some g) p q = (g, p, some_same (holding g) h q)
+    go (Some g) p q = (g, p, same_Some (holding g) h q)
 
 -- ---- the lines that a put spares
 

@@ -36,7 +36,10 @@ impl<P: Replacement + Drop> Ranked<P> {
         ensures { Builds (ranked_of P.Replacement.renewing) result (built (P.Replacement.renewing policy) ways) }
     {
         let fits = (1..=MOST_WAYS).contains(&ways);
-        BuildError::build(fits, ways, 1, |ways| Ranked::cleared(heap, policy, ways))
+        BuildError::answer(
+            fits,
+            Ranked::cleared(heap, policy, if fits { ways } else { 1 }),
+        )
     }
 
     fn cleared(heap: Global, policy: P, ways: usize) -> Result<Ranked<P>, AllocError>

@@ -2,11 +2,12 @@
 use Rattle.std.proofs.Common.{◌≡◌, ℕ, ◌<◌, Bool, true, false, cond, eqb, ltb, List, length, Some, None, Option, sym, refl, ap, ◌∙◌, add-zero, arith}
 use native.Mathlib.Decide.{ℕ_discrete}
 use Rattle.std.proofs.lemmas.Bool.{ltb-true, eqb-true}
+use Rattle.std.proofs.lemmas.Option.{same_Some}
 use Rattle.device.specs.Device.{after}
 use Rattle.parts.specs.declared.mark.Mark.TheVariants.{Shared}
 use Rattle.parts.specs.declared.line.Line.{Line}
 use Rattle.tier.specs.Meaning.{TierMeaning, put, change, Holding, look_of, line, put_answer, bare, Lawful}
-use Rattle.tier.specs.Options.{never, none-some, some_same}
+use Rattle.tier.specs.Options.{never, none-some}
 use Rattle.tier.specs.Holdings.{bare-none}
 use Rattle.memory.specs.Meaning.{MemoryMeaning, store, size_of}
 use Rattle.protocol.specs.declared.access.Access.{Access}
@@ -41,7 +42,7 @@ owed_held None s e = never s e
 owed_held (Some h) s e = go (eqb h.0 1) refl e
   where
     go : (b : Bool) → eqb h.0 1 ≡ b → cond b (Some h.1) None ≡ Some s → ◌≡◌ {A = Option Copy} (Some (h.0, h.1)) (Some (modified s))
-    go true q z = let p = eqb-true h.0 1 q in let p' : h.1 ≡ s = some_same h.1 s z in rw (p, p')
+    go true q z = let p = eqb-true h.0 1 q in let p' : h.1 ≡ s = same_Some h.1 s z in rw (p, p')
     go false q z = never s z
 
 module _ (r : RunMeaning) (b : Book) (I : Inv r b) where
@@ -129,7 +130,7 @@ module _ (r : RunMeaning) (b : Book) (I : Inv r b) where
 
       cleans : (j : ℕ) → Change (copy_of cs c j) (held t' j) (valid m j) (valid (after m (store n s)) j)
       cleans j = elim (ℕ_discrete j n) [
-        | yes q ↦ rw q (stored s e (λ x z. some_same x (shared s) (sym z ∙ change-holds t ok n (modified s) e Shared s))
+        | yes q ↦ rw q (stored s e (λ x z. same_Some x (shared s) (sym z ∙ change-holds t ok n (modified s) e Shared s))
             (valid-named m S.memory (store n s) (inside cs m b.number S c n (modified s) e)))
         | no ne ↦ kept (change-others t ok n Shared s j ne) (K.others j ne)
       ]

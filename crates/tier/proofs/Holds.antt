@@ -2,11 +2,12 @@
 use Rattle.std.proofs.Common.{◌≡◌, ℕ, true, [], is_some, Some, None, Option, sym, refl, ap, ◌∙◌}
 use native.Mathlib.Decide.{ℕ_discrete}
 use Rattle.std.specs.Option.{option_map}
+use Rattle.std.proofs.lemmas.Option.{same_Some}
 use Rattle.device.specs.Device.{after}
 use Rattle.parts.specs.declared.mark.Mark.{Mark}
 use Rattle.parts.specs.declared.line.Line.{Line}
 use Rattle.tier.specs.Meaning.{TierMeaning, put, change, touch, Holding, look_of, out_of, Lawful}
-use Rattle.tier.specs.Options.{never, some_same, is_some_lem, some_of}
+use Rattle.tier.specs.Options.{never, is_some_lem, some_of}
 use Rattle.tier.specs.Holdings.{bare-held}
 
 -- the same blocks are held
@@ -36,5 +37,5 @@ module _ (m : TierMeaning) (ok : Lawful m) where
       go None None e q = kept e (λ r. never b (sym (ap (option_map (λ (g : Line). g.block)) q) ∙ r))
       go None (Some g) e q = elim (ℕ_discrete g.block b) [
         | yes z ↦ never _ (sym (ap (look_of (after m (put n k s))) (sym z) ∙ (ok []).out_gone n k s g e q) ∙ (some_of (look_of (after m (put n k s)) b) h).1)
-        | no z ↦ kept e (λ r. z (some_same g.block b (sym (ap (option_map (λ (x : Line). x.block)) q) ∙ r)))
+        | no z ↦ kept e (λ r. z (same_Some g.block b (sym (ap (option_map (λ (x : Line). x.block)) q) ∙ r)))
       ]

@@ -2,6 +2,7 @@
 use Rattle.std.proofs.Common.{◌≡◌, ℕ, true, List, [], ◌∷◌, ◌++◌, is_some, Some, None, Option, sym, refl, ap, ◌∙◌, subst}
 use native.Mathlib.Decide.{ℕ_discrete}
 use Rattle.std.specs.Option.{option_map}
+use Rattle.std.proofs.lemmas.Option.{same_Some}
 use Rattle.device.specs.Device.{after, reach, run}
 use Rattle.device.specs.Laws.{seen-reach, reach-more}
 use Rattle.parts.specs.declared.mark.Mark.{Mark}
@@ -9,7 +10,7 @@ use Rattle.parts.specs.declared.line.Line.{Line}
 use Rattle.tier.specs.Meaning.{TierMeaning, TierView, TierCall, put, take, change, touch, clear, Holding, depth_of, look_of, out_of, if_held, bare, Lawful}
 use Rattle.tier.specs.Pile.{Parts, parts, first, pile_look, sink, to_shown, pile_step, pile}
 use Rattle.tier.specs.Stacked.{Stacked, StaysStacked}
-use Rattle.tier.specs.Options.{never, some_same, is_some_lem, some_of, not_some}
+use Rattle.tier.specs.Options.{never, is_some_lem, some_of, not_some}
 use Rattle.tier.specs.Holdings.{bare-none, bare-held}
 use Rattle.tier.proofs.Holds.{SameBlocks, change-same, touch-same}
 use Rattle.tier.specs.PileLaws.{block, both_none, Sound, keeps, fu, upper-same, lower-same, away-held}
@@ -62,7 +63,7 @@ module _ (p : Parts) (ok : Sound p) (apart : Apart p) where
       not_away : (b : ℕ) → look_of l b ≡ None → (o : Option Line) → away ≡ o → option_map block away ≡ Some b → ⊥
       not_away b e None q r = never b (sym (ap (option_map block) q) ∙ r)
       not_away b e (Some x) q r =
-          let same : x.block ≡ b = some_same x.block b (sym (ap (option_map block) q) ∙ r) in
+          let same : x.block ≡ b = same_Some x.block b (sym (ap (option_map block) q) ∙ r) in
           never _ (sym (ap bare (ap (look_of l) same ∙ e)) ∙ (away-held p ok n k s free g fell x q).1)
 
       apart-sunk : (b : ℕ) → is_some (look_of u' b) ≡ true → look_of laid b ≡ None

@@ -9,9 +9,6 @@ module _ {X : Type 0} where
   pub none-some : {P : Type 0} (o : Option X) (x : X) → o ≡ None → o ≡ Some x → P
   none-some o x p q = let z : ◌≡◌ {A = ℕ} 0 1 = cc in absurd (omega arith)
 
-  pub some_same : (x y : X) → ◌≡◌ {A = Option X} (Some x) (Some y) → x ≡ y
-  some_same x y e = cc
-
   pub is_some_lem : (o : Option X) (x : X) → o ≡ Some x → is_some o ≡ true
   is_some_lem o x e = ap is_some e
 

@@ -3,6 +3,7 @@ use Rattle.std.specs.Prelude.{◌≡◌, ℕ, ◌+◌, ◌≤◌, min, [], ◌�
 use Rattle.std.proofs.Common.{sym, ap, ◌∙◌, arith}
 use Rattle.std.proofs.Math.Decide.{ℕ_discrete}
 use Rattle.std.specs.Option.{option_map}
+use Rattle.std.proofs.lemmas.Option.{same_Some}
 use Rattle.device.specs.Device.{after, device}
 use Rattle.device.specs.Laws.{device-after, device_always}
 use Rattle.parts.specs.declared.mark.Mark.{Mark}
@@ -10,7 +11,7 @@ use Rattle.parts.specs.declared.line.Line.{Line}
 use Rattle.parts.specs.Marks.{mark_number}
 use Rattle.tier.specs.Meaning.{TierMeaning, TierCall, put, take, change, touch, clear, Holding, depth_of, look_of, out_of, if_held, bare, TierLaws, Lawful}
 use Rattle.tier.specs.Pile.{Parts, parts, deeper, first, pile_look, sink, sunk, unless_held, pile_out, pile_view, to_shown, pile_step, pile_depth, pile}
-use Rattle.tier.specs.Options.{never, none-some, some_same}
+use Rattle.tier.specs.Options.{never, none-some}
 use Rattle.tier.specs.Holdings.{held-some, held_none, bare-none}
 
 abbrev pub block : Line → ℕ
@@ -49,7 +50,7 @@ left_out u None x e = never x e
 left_out u (Some y) x e = go (look_of u y.block) refl e
   where
     go : (h : Option Holding) → look_of u y.block ≡ h → if_held h None (Some y) ≡ Some x → (Some y ≡ Some x) × (look_of u x.block ≡ None)
-    go None p q = (q, ap (λ (z : Line). look_of u z.block) (sym (some_same y x q)) ∙ p)
+    go None p q = (q, ap (λ (z : Line). look_of u z.block) (sym (same_Some y x q)) ∙ p)
     go (Some h) p q = never x q
 
 -- ---- no call alters the depth
@@ -159,7 +160,7 @@ module _ (p : Parts) (ok : Sound p) where
           ∙ sym (bare-upper d (look_of u g.block) (look_of l g.block) _ (hu.out_held n k s g fu fell))
 
       pub upper-same : (b : ℕ) → (b ≢ n) → (b ≢ g.block) → bare (look_of u' b) ≡ bare (look_of u b)
-      upper-same b nn ng = hu.put_rest n k s b fu nn (λ e. ng (sym (some_same g.block b (sym (ap (option_map block) fell) ∙ e))))
+      upper-same b nn ng = hu.put_rest n k s b fu nn (λ e. ng (sym (same_Some g.block b (sym (ap (option_map block) fell) ∙ e))))
 
       pub lower-same : (b : ℕ) → (b ≢ g.block) → (option_map block away ≢ Some b) → bare (look_of laid b) ≡ bare (look_of l b)
       lower-same b ng nw = ht.put_rest g.block g.mark g.stamp b room ng nw ∙ ap bare (hl.take_rest g.block b ng)
@@ -168,7 +169,7 @@ module _ (p : Parts) (ok : Sound p) where
           → (o : Option Line) → away ≡ o → bare (first d (look_of u' b) (look_of laid b)) ≡ bare (pile_look p b)
       beside b nn ng nw None e = bare-first d _ _ _ _ (upper-same b nn ng) (lower-same b ng (λ q. never b (sym (ap (option_map block) e) ∙ q)))
       beside b nn ng nw (Some x) e = elim (ℕ_discrete x.block b) [
-        | no q ↦ bare-first d _ _ _ _ (upper-same b nn ng) (lower-same b ng (λ r. q (some_same x.block b (sym (ap (option_map block) e) ∙ r))))
+        | no q ↦ bare-first d _ _ _ _ (upper-same b nn ng) (lower-same b ng (λ r. q (same_Some x.block b (sym (ap (option_map block) e) ∙ r))))
         | yes q ↦ kept q (look_of u' b) refl
       ]
         where
@@ -233,7 +234,7 @@ module _ (p : Parts) (ok : Sound p) where
       go None (Some y) p q r =
           let mark = hl.marks n y q in
           let low = hl.levels n y q in
-          let e : deeper d y ≡ h = some_same (deeper d y) h r in
+          let e : deeper d y ≡ h = same_Some (deeper d y) h r in
           let e₀ : y.0 ≡ h.0 = ap (λ (z : Holding). z.0) e in
           let e₂ : min 4 (d + y.2) ≡ h.2 = ap (λ (z : Holding). z.2) e in
           (omega arith, omega arith, omega arith)
@@ -247,10 +248,10 @@ module _ (p : Parts) (ok : Sound p) where
       go None None pa pb r = never h r
       go None (Some y) pa pb r =
           first-same d (look_of u n) None _ _ pa (hl.change_in n k s y pb)
-          ∙ ap (λ (z : Holding). Some (mark_number k, s, z.2)) (some_same (deeper d y) h r)
+          ∙ ap (λ (z : Holding). Some (mark_number k, s, z.2)) (same_Some (deeper d y) h r)
       go (Some y) b pa pb r =
           first-same d _ _ (look_of l n) (look_of l n) (hu.change_in n k s y pa) refl
-          ∙ ap (λ (z : Holding). Some (mark_number k, s, z.2)) (some_same y h r)
+          ∙ ap (λ (z : Holding). Some (mark_number k, s, z.2)) (same_Some y h r)
 
   rest_of : (o : Option Holding) (c : TierCall) (b : ℕ) → look_of (after u c) b ≡ look_of u b → look_of (after l c) b ≡ look_of l b
       → pile_look (if_held o (parts (after u c) l) (parts u (after l c))) b ≡ pile_look p b
