@@ -27,6 +27,7 @@ pub struct SetAssociative {
 impl SetAssociative {
     ghost use Rattle.assoc.specs.SetAssociative.{sets_of, meaning_of};
 
+    // Sets and ways are two numbers, as a cache is named: a struct of them would be made for this call alone.
     /// An empty tier of 1 to 16 sets of 1 to 4 ways. Block n belongs to set n mod `sets`; a put into a full set gives out the
     /// block of that set that was put or touched longest ago.
     pub fn new(

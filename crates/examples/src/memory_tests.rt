@@ -33,7 +33,7 @@ fn refuses<M: Memory>(memory: &mut M, block: u16, number: u8) -> bool {
         && memory.stale(block).map_err(u8::from) == Err(number)
 }
 
-// The first step that answers otherwise, if there is one.
+// The first step that answers otherwise, if there is one. Of any tier or memory it would take a closure with a precondition.
 fn first_wrong<M: Memory>(memory: &mut M, steps: &[Step]) -> Option<usize> {
     steps.iter().position(|step| !agrees(memory, *step))
 }

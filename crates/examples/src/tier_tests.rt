@@ -5,7 +5,7 @@ use parts::line::Line;
 use parts::mark::Mark;
 use parts::refusal::BuildError;
 use ranked::queue::Queue;
-use std::alloc::{AllocError, Global};
+use std::alloc::Global;
 use std::test::Fail;
 use tier::Tier;
 use tier::pile::Pile;
@@ -57,21 +57,21 @@ fn agrees<T: Tier>(tier: &mut T, step: Step) -> bool {
     }
 }
 
-// The first step that answers otherwise, if there is one.
+// The first step that answers otherwise, if there is one. Of any tier or memory it would take a closure with a precondition.
 fn first_wrong<T: Tier>(tier: &mut T, steps: &[Step]) -> Option<usize> {
     steps.iter().position(|step| !agrees(tier, *step))
 }
 
-fn direct(heap: Global, lines: usize) -> Result<Direct, AllocError> {
-    Direct::new(heap, lines).or_else(BuildError::into_tier)
+fn direct(heap: Global, lines: usize) -> Result<Direct, Fail> {
+    Direct::new(heap, lines).map_err(|_| Fail::new("refused"))
 }
 
-fn queue(heap: Global, lines: usize) -> Result<Queue, AllocError> {
-    Queue::new(heap, lines).or_else(BuildError::into_tier)
+fn queue(heap: Global, lines: usize) -> Result<Queue, Fail> {
+    Queue::new(heap, lines).map_err(|_| Fail::new("refused"))
 }
 
-fn sets(heap: Global, sets: usize, ways: usize) -> Result<SetAssociative, AllocError> {
-    SetAssociative::new(heap, sets, ways).or_else(BuildError::into_tier)
+fn sets(heap: Global, sets: usize, ways: usize) -> Result<SetAssociative, Fail> {
+    SetAssociative::new(heap, sets, ways).map_err(|_| Fail::new("refused"))
 }
 
 #[test]

@@ -10,7 +10,8 @@ use memory::Memory;
 use memory::refusal::Refusal;
 
 // The half that a block is in, and the block's number there.
-#[derive(Clone, Copy)]
+// Each call matches on it for itself: the two memories are of different types, and no closure takes either.
+#[derive(Clone, Copy, PartialEq, Eq, Debug)]
 enum Half {
     Even(u16),
     Odd(u16),

@@ -11,6 +11,7 @@ use memory::cell::Cell;
 use memory::flat::Flat;
 use window::Window;
 
+// Block and stamp stand apart as `store` takes them, and start and length as a window does.
 /// Stores a last stamp in a block of any memory, and makes the block stale.
 pub fn retire<M: Memory>(memory: &mut M, block: u16, stamp: u32)
     ensures { M.Memory.meaning memory.new ≡ after (after (M.Memory.meaning memory.old) (store block stamp)) (stale block) }

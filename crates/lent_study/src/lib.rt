@@ -14,7 +14,8 @@ use study::quote::Quote;
 use study::stages::Draft;
 use study::turn::Turn;
 
-// The study, which gives the table back: a lender knows what its table holds only by a reference that is returned.
+// The study, which gives the table back: the memory is moved into it and out of it, and the check knows what a lent table ends
+// as only where the lending call's result stays in its place.
 fn lend<'a, R: Row + Drop>(
     row: R,
     table: &'a mut [Cell],

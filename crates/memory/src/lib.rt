@@ -27,7 +27,7 @@ pub trait Memory {
         ensures { result ≡ asked (meaning self.now) block };
 
     /// Makes a block valid with a stamp.
-    // The two stand apart: a pair of them would be made for this one call, and taken apart in it.
+    // Block and stamp stand apart, here and in all that calls this: no caller keeps the two together.
     fn store(&mut self, block: u16, stamp: u32) -> Result<(), Refusal>
         ensures answer { result ≡ granted (meaning self.old) block }
         ensures next { meaning self.new ≡ after (meaning self.old) (store block stamp) };

@@ -20,6 +20,7 @@ pub enum BadNumber {
     TooLarge,
 }
 
+// No `TryFrom`: neither the bytes nor the number is a type of this crate.
 /// The number that the bytes write. It is read just where the bytes are what that number is written as.
 pub fn block_number(bytes: &[u8]) -> Result<u16, BadNumber>
     ensures value { result ≡ number_of bytes.now }

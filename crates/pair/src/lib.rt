@@ -1,7 +1,8 @@
 //! Two rows side by side.
 #![tactic(auto)]
 
-ghost use Rattle.std.specs.Prelude.{◌≡◌, ◌++◌, IfOk, Ok};
+ghost use Rattle.std.specs.Prelude.{◌≡◌, ◌+◌, ◌++◌, min, IfOk, Ok};
+ghost use Rattle.row.specs.Cores.{count_of};
 ghost use Rattle.pair.specs.Seats.{seat_of};
 ghost use Rattle.pair.specs.Places.{lawful_both};
 
@@ -25,6 +26,15 @@ impl<R: Row, S: Row> Pair<R, S> {
         ensures { (result.first ≡ first) × (result.second ≡ second) }
     {
         Pair { first, second }
+    }
+}
+
+impl<R: Row, S: Row> Pair<R, S> {
+    // The number of the second row's first core. It stops at the largest number, which no message reaches.
+    fn number_after(&self, first: u16) -> u16
+        ensures { result ≡ min 65535 (first + count_of (R.Row.cores self.now.first)) }
+    {
+        first.saturating_add(self.first.count())
     }
 }
 
@@ -62,7 +72,6 @@ fn seat_in(before: u16, core: u16) -> Seat
     }
 }
 
-// The second row is numbered on from the first. Its number stops at the largest, which no message reaches.
 impl<R: Row, S: Row> Row for Pair<R, S> {
     ghost cores = { λ p. R.Row.cores p.first ++ S.Row.cores p.second };
 
@@ -110,7 +119,7 @@ impl<R: Row, S: Row> Row for Pair<R, S> {
 
     #[tactic(auto, using(crate::proofs::Messages::by_row))]
     fn invalidate(&mut self, first: u16, message: Message) -> Option<u32> {
-        let second = first.saturating_add(self.first.count());
+        let second = self.number_after(first);
         let earlier = self.first.invalidate(first, message);
         let later = self.second.invalidate(second, message);
         later.or(earlier)
@@ -118,7 +127,7 @@ impl<R: Row, S: Row> Row for Pair<R, S> {
 
     #[tactic(auto, using(crate::proofs::Messages::by_row))]
     fn awaited(&self, first: u16, message: Message) -> bool {
-        let second = first.saturating_add(self.first.count());
+        let second = self.number_after(first);
         self.first.awaited(first, message) || self.second.awaited(second, message)
     }
 

@@ -14,7 +14,7 @@ pub enum Refusal {
 }
 
 /// The number by which a report names the refusal.
-// Each enum of refusals has an impl of its own: they stand in three crates, and one written by a macro would be refused.
+// Each enum of refusals has an impl of its own: three crates, other numbers, and a macro cannot write the ghost member.
 impl From<Refusal> for u8 {
     ghost from_gives = { λ refusal number. number ≡ refusal_number refusal };
 

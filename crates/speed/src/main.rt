@@ -187,22 +187,19 @@ fn play<R: Row + Drop>(rt: &HostRuntime, name: &str, row: R, load: Load) -> anyh
         wm: 100,
     };
     let _ = draft.weigh(prices);
-    // A match: a closure that takes an error with a lent table gets no proof.
-    match draft.open() {
-        Ok(mut run) => {
-            driver.drive(&mut run, load.steps);
-            let quote = run.settle().quote;
-            let Driver {
-                accepted,
-                calls,
-                checksum,
-                ..
-            } = driver;
-            println!(rt; "{name}\t{accepted}\t{calls}\t{quote}\t{checksum}")?;
-            Ok(())
-        }
-        Err(_) => Err(anyhow!("the study was not opened")),
-    }
+    let Ok(mut run) = draft.open() else {
+        return Err(anyhow!("the study was not opened"));
+    };
+    driver.drive(&mut run, load.steps);
+    let quote = run.settle().quote;
+    let Driver {
+        accepted,
+        calls,
+        checksum,
+        ..
+    } = driver;
+    println!(rt; "{name}\t{accepted}\t{calls}\t{quote}\t{checksum}")?;
+    Ok(())
 }
 
 fn play_two(rt: &HostRuntime, load: Load) -> anyhow::Result<()> {

@@ -2,7 +2,7 @@
 use protocol::answer::Answer;
 use protocol::weights::Movement;
 
-/// What an accepted step performed.
+/// What an accepted step performed. Nothing is a case beside the two: the definitions match on three.
 #[derive(Clone, Copy, PartialEq, Eq, Debug)]
 pub enum Performed {
     Nothing,

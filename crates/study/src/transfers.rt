@@ -58,23 +58,16 @@ fn recall<M: Memory>(memory: &mut M, block: u16, met: Option<u32>)
 pub(crate) fn claim<R: Row, M: Memory>(
     row: &mut R,
     memory: &mut M,
-    core: u16,
-    block: u16,
+    message: Message,
     modified: bool,
 )
-    ensures row { R.Row.cores row.new ≡ alone_cores modified core block (R.Row.cores row.old) }
-    ensures memory { M.Memory.meaning memory.new ≡ alone_memory modified core block (R.Row.cores row.old) (M.Memory.meaning memory.old) }
+    ensures row { R.Row.cores row.new ≡ alone_cores modified message.sender message.block (R.Row.cores row.old) }
+    ensures memory { M.Memory.meaning memory.new ≡ alone_memory modified message.sender message.block (R.Row.cores row.old) (M.Memory.meaning memory.old) }
 {
     if modified {
         return;
     }
-    let met = row.invalidate(
-        0,
-        Message {
-            sender: core,
-            block,
-        },
-    );
-    recall(memory, block, met);
-    let _ = memory.stale(block);
+    let met = row.invalidate(0, message);
+    recall(memory, message.block, met);
+    let _ = memory.stale(message.block);
 }

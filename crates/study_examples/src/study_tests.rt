@@ -5,7 +5,6 @@ use memory::Memory;
 use memory::cell::{Cell, State};
 use memory::flat::Flat;
 use pair::Pair;
-use parts::refusal::BuildError;
 use protocol::answer::Answer;
 use protocol::call::Call;
 use protocol::refusal::Refusal;
@@ -26,7 +25,7 @@ const OLD: Cell = Cell {
 
 // A core with one line.
 fn one(heap: Global) -> Result<Core<Direct>, AllocError> {
-    let tier = Direct::new(heap, 1).or_else(BuildError::into_tier)?;
+    let tier = Direct::new(heap, 1).map_err(|_| AllocError)?;
     Ok(Core::new(tier))
 }
 
@@ -123,14 +122,11 @@ fn accepted<R: Row, M: Memory>(run: &mut Run<R, M>) -> Option<(u32, u8)> {
 
 fn steps<R: Row + Drop>(rt: &impl Abort, row: R) -> Result<(), Fail> {
     let mut table = [OLD];
-    // A match: a closure that takes an error with a lent table gets no proof.
-    match Draft::new(row, Flat::over(&mut table)).open() {
-        Ok(mut run) => {
-            assert_eq!(rt; accepted(&mut run), Some((1_000_000, 4)));
-            Ok(())
-        }
-        Err(_) => Err(Fail::new("refused")),
-    }
+    let Ok(mut run) = Draft::new(row, Flat::over(&mut table)).open() else {
+        return Err(Fail::new("refused"));
+    };
+    assert_eq!(rt; accepted(&mut run), Some((1_000_000, 4)));
+    Ok(())
 }
 
 #[test]

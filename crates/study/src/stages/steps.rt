@@ -25,7 +25,8 @@ use row::Row;
 use row::message::Message;
 use row::operation::Operation;
 
-// A core and a block stand apart in parameters, as in a `Call`: fetch and resume name a core alone.
+// A core and a block stand apart, as in `Call::Read(0, 3)`: a struct of the two would be taken apart at once, since a row is
+// asked by its core.
 impl<R: Row, M: Memory> Run<R, M> {
     // The core cannot make the access yet.
     fn wait(&mut self, core: u16, wanted: Access) -> Effect
@@ -64,13 +65,12 @@ impl<R: Row, M: Memory> Run<R, M> {
         let out = self.row.operate(core, Operation::BringUp(block, held));
         self.row.turn(core, CoreState::Ready);
         let left = leave(&mut self.memory, out);
-        claim(
-            &mut self.row,
-            &mut self.memory,
-            core,
+        let message = Message {
+            sender: core,
             block,
-            mark == u8::from(Mark::Modified),
-        );
+        };
+        let modified = mark == u8::from(Mark::Modified);
+        claim(&mut self.row, &mut self.memory, message, modified);
         let line = Line {
             block,
             mark: Mark::Modified,
