@@ -16,6 +16,7 @@ use protocol::weights::{Prices, Weights};
 use row::{MOST_CORES, Row};
 
 // Stores stamp 0 in every block, in rising order.
+#[tactic(auto, unfolding(crate::specs::Opening::zeroed))]
 fn zero<M: Memory>(memory: &mut M)
     ensures { M.Memory.meaning memory.new ≡ zeroed (size_of (M.Memory.meaning memory.old)) (M.Memory.meaning memory.old) }
 {
