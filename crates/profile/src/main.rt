@@ -9,8 +9,8 @@ use std::io::{BufRead, BufReader};
 use std::{fmt, io};
 use tier::Tier;
 
-// A row of the report: the number of the access, its block, the level that served it (0 for a miss), the block that left,
-// or `-` as in a quote: two lines, for which no crate stands below both.
+// A row of the report: the number of the access, its block, the level that served it (0 for a miss, as the report has always
+// had it), the block that left, or `-` as in a quote: two lines, and no crate for text stands below both.
 #[derive(Clone, Copy)]
 struct Row {
     number: u64,

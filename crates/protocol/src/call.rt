@@ -2,6 +2,7 @@
 ghost use Rattle.std.specs.Prelude.{◌≡◌};
 ghost use Rattle.protocol.specs.Calls.{core_of, fits_in};
 
+// Core and block are two fields, so that a schedule reads `Call::Read(0, 3)`.
 /// A call names a core and, but for fetch and resume, a block.
 #[derive(Clone, Copy, PartialEq, Eq, Debug)]
 pub enum Call {

@@ -1,8 +1,8 @@
 //! What a step does with a block in the caches of one core.
 use parts::line::Line;
 
-// An enum: a pair of rows passes one call on. No closure takes a tier of any type, and a trait with three implementations
-// would say no more.
+// An enum: a pair of rows passes one call on. No closure takes a tier of any type, no `&mut dyn` made of a type parameter is
+// proved, and a trait with three implementations would say no more.
 #[derive(Clone, Copy, PartialEq, Eq, Debug)]
 pub enum Operation {
     /// Brings up a block that is held with this mark, stamp and level.

@@ -83,7 +83,7 @@ impl Driver {
             .wrapping_mul(6_364_136_223_846_793_005)
             .wrapping_add(1_442_695_040_888_963_407);
         let scaled = (self.random >> 32).wrapping_mul(u64::from(limit)) >> 32;
-        // `as` is proved to lose nothing, and below it is the place of a case: no conversion says these more plainly
+        // `as` is proved to lose nothing: `try_from` would bring an error that cannot come
         (scaled & 0xffff) as u16
     }
 
@@ -117,6 +117,7 @@ impl Driver {
         if outcome.is_ok() {
             self.accepted = self.accepted.wrapping_add(1);
         }
+        // `as` tells the place of a case among the words, which no conversion says more plainly
         self.checksum = self
             .checksum
             .wrapping_mul(31)

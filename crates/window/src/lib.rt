@@ -18,6 +18,7 @@ pub struct Window<M> {
 }
 
 impl<M: Memory> Window<M> {
+    // Start and length stand apart as a caller names them: kept together, they are this window.
     /// The `length` blocks of `below` from `start` on, or as many of them as there are.
     pub fn new(below: M, start: u32, length: u32) -> Window<M>
         ensures parts { (result.below ≡ below) × (result.start ≡ start) × (result.length ≡ length) }

@@ -25,8 +25,7 @@ use row::Row;
 use row::message::Message;
 use row::operation::Operation;
 
-// A core and a block stand apart, as in `Call::Read(0, 3)`: a struct of the two would be taken apart at once, since a row is
-// asked by its core.
+// A core and a block stand apart, as in `Call::Read(0, 3)`: a struct of the two would be made at each line of a schedule.
 impl<R: Row, M: Memory> Run<R, M> {
     // The core cannot make the access yet.
     fn wait(&mut self, core: u16, wanted: Access) -> Effect
