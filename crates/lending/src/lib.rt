@@ -44,8 +44,8 @@ pub fn retire_in_table(table: &mut [Cell], block: u16, stamp: u32)
     retire_flat(&mut flat, block, stamp);
 }
 
-// Tried without it, five ways: the window is moved into a call and out of it, and the check knows what a lent table ends as only where the lending call's result
-// stays in its place: so this function gives the table back.
+// Tried without it, five ways: the window is moved into a call and out of it, and the check knows what a lent table ends as
+// only where the lending call's result stays in its place. So this function gives the table back.
 fn lend_to_window<'a>(
     table: &'a mut [Cell],
     start: u32,
