@@ -6,7 +6,7 @@ use Rattle.device.specs.Device.{after, reach}
 use Rattle.parts.specs.declared.mark.Mark.{Mark}
 use Rattle.parts.specs.declared.line.Line.{Line}
 use Rattle.tier.specs.Meaning.{TierMeaning, TierCall, put, take, change, touch, clear, Holding, if_held, look_of, out_of, Lawful}
-use Rattle.ranked.specs.Ranks.{Ranks, find, ranked_step, ranked}
+use Rattle.ranks.specs.Ranks.{Ranks, find, ranked_step, ranked}
 use Rattle.ranked.specs.Ages.{uses, last_use, OldestLeaves}
 use Rattle.ranked.specs.RankedLaws.{Sound, keeps as ranked-keeps, ranked-lawful, look_none}
 use Rattle.ranked.proofs.Ages.{Rises, rises-later, rises-other, rises-step, oldest-first, ousted-oldest, found_held}

@@ -6,7 +6,7 @@ use Rattle.tier.specs.Meaning.{TierMeaning, TierView, TierCall, put, take, chang
 use Rattle.tier.specs.Building.{within, in_range_else}
 use Rattle.ranked.specs.declared.policy.Lru.{Lru}
 use Rattle.ranked.specs.declared.ranked.Ranked.{Ranked}
-use Rattle.ranked.specs.Ranks.{ranked}
+use Rattle.ranks.specs.Ranks.{ranked}
 use Rattle.ranked.specs.Ranked.{ranked_of}
 
 -- each set is a tier of its own

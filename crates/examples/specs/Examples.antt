@@ -6,7 +6,7 @@ use Rattle.parts.specs.declared.line.Line.{Line}
 use Rattle.tier.specs.Meaning.{TierMeaning, TierCall, put, touch, line, look_of, out_of}
 use Rattle.tier.specs.Pile.{pile}
 use Rattle.direct.specs.Lines.{direct, empty}
-use Rattle.ranked.specs.Ranks.{ranked}
+use Rattle.ranks.specs.Ranks.{ranked}
 use Rattle.assoc.specs.Sets.{set_associative, empty as empty-sets}
 use Rattle.memory.specs.Meaning.{MemoryMeaning, size_of}
 use Rattle.window.specs.Window.{window}

@@ -44,5 +44,7 @@ pub fn two_levels(heap: Global) -> Result<Caches, AllocError>
 pub fn two_cores(heap: Global) -> Result<TwoCores, AllocError>
     ensures { IfOk result (λ p. cores_of p ≡ two_cores) }
 {
-    Pair::doubled(|| Ok(Core::new(two_levels(heap)?)))
+    let first = Core::new(two_levels(heap)?);
+    let second = Core::new(two_levels(heap)?);
+    Ok(Pair::new(first, second))
 }

@@ -1,25 +1,39 @@
 -- The laws of a memory over a table.
-use Rattle.std.specs.Prelude.{◌≡◌, ℕ, ◌<◌, ◌≤◌, cond, List, [], ◌∷◌, length, ◌≢◌, nat_lt, slice_index_or, refl}
-use Rattle.std.proofs.Common.{sym, ap, ◌∙◌, arith, length-set, get_or-set_same, get_or-set_other}
-use Rattle.std.proofs.lemmas.Bool.Decides.{nat_tests}
+use Rattle.std.specs.Prelude.{◌≡◌, ℕ, ◌<◌, ◌≤◌, Bool, true, false, cond, List, [], ◌∷◌, length, get_or, ◌≢◌, nat_lt, slice_index_or, slice_set, refl}
+use Rattle.std.proofs.Common.{sym, ap, ◌∙◌, arith, length-set, get_or-set_same, get_or-set_other, ltb-false, lt-ltb, le-ltb}
 use Rattle.device.specs.Device.{after}
 use Rattle.device.specs.Laws.{device-after, device_always}
 use Rattle.memory.specs.declared.cell.Cell.{Cell}
 use Rattle.memory.specs.Meaning.{MemoryMeaning, MemoryCall, store, stale, Lent, lent_of, block_of, result, stamp_of, MemoryLaws, Lawful}
 use Rattle.memory.specs.Flat.{flat_size, no_cell, write, flat_step, flat_view, flat}
 
+-- the size, by the number of cells
+size-within : (k : ℕ) → cond (nat_lt 4096 k) 0 k ≤ k
+size-within k = elim (nat_lt 4096 k) as (λ b. cond b 0 k ≤ k) [ true ↦ omega arith | false ↦ omega arith ]
+
+size-bounded : (k : ℕ) → cond (nat_lt 4096 k) 0 k ≤ 65536
+size-bounded k = go (nat_lt 4096 k) refl
+  where
+    go : (b : Bool) → nat_lt 4096 k ≡ b → cond b 0 k ≤ 65536
+    go true e = omega arith
+    go false e = omega (arith, ltb-false 4096 k e)
+
 -- one write
 write-length : (t : List Cell) (n : ℕ) (x : Cell) → length (write t n x) ≡ length t
-write-length t n x = grind (arith, nat_tests, length-set)
+write-length t n x =
+    elim (nat_lt n (flat_size t)) as (λ b. length (cond b (slice_set t n x) t) ≡ length t) [ true ↦ length-set t n x | false ↦ refl ]
 
 write_same : (t : List Cell) (n : ℕ) (x : Cell) → n < flat_size t → slice_index_or (write t n x) n no_cell ≡ x
-write_same t n x h = grind (arith, nat_tests, get_or-set_same)
+write_same t n x h =
+    ap (λ b. get_or (cond b (slice_set t n x) t) n no_cell) (lt-ltb n (flat_size t) h)
+    ∙ get_or-set_same t n x no_cell (omega (arith, size-within (length t)))
 
 write-other : (t : List Cell) (n k : ℕ) (x : Cell) → (k ≢ n) → slice_index_or (write t n x) k no_cell ≡ slice_index_or t k no_cell
-write-other t n k x ne = grind (arith, nat_tests, get_or-set_other)
+write-other t n k x ne =
+    elim (nat_lt n (flat_size t)) as (λ b. slice_index_or (cond b (slice_set t n x) t) k no_cell ≡ slice_index_or t k no_cell) [ true ↦ get_or-set_other t n k x no_cell ne | false ↦ refl ]
 
 write-refused : (t : List Cell) (n : ℕ) (x : Cell) → flat_size t ≤ n → write t n x ≡ t
-write-refused t n x h = grind (arith, nat_tests)
+write-refused t n x h = ap (λ b. cond b (slice_set t n x) t) (le-ltb n (flat_size t) h)
 
 -- one call
 step-length : (t : List Cell) (c : MemoryCall) → length (flat_step t c) ≡ length t
@@ -47,7 +61,7 @@ module _ (a : ℕ) where
 
   flat-laws : (t : List Cell) → Unit {0} → MemoryLaws (flat a t)
   flat-laws t _ = record {
-    bounded = grind (arith, nat_tests);
+    bounded = size-bounded (length t);
     named = flat-named t;
     others = λ c k h ne. ap stamp_of (flat-others t c k ne);
     refused = λ c h. sym (flat_after t c) ∙ ap (flat a) (flat-refused t c h);
@@ -58,5 +72,11 @@ module _ (a : ℕ) where
   flat-lawful t = device_always flat_size (flat_view a) flat_step flat-stays MemoryLaws (λ _. Unit {0}) (λ s c u. tt) flat-laws t tt
 
 -- where two memories show the same, and each was lent one table, that is the same
+abbrev first : List Lent → Lent
+first [] = record { name = 0; cells = [] }
+first (x ∷ xs) = x
+
 pub lent_same : (m w : MemoryMeaning) (x y : Lent) → m ≡ w → lent_of m ≡ x ∷ [] → lent_of w ≡ y ∷ [] → (x.name ≡ y.name) × (x.cells ≡ y.cells)
-lent_same m w x y e p q = (cc, cc)
+lent_same m w x y e p q =
+    let same : x ∷ [] ≡ y ∷ [] = sym p ∙ ap (λ (v : MemoryMeaning). lent_of v) e ∙ q in
+    (ap (λ (l : List Lent). (first l).name) same, ap (λ (l : List Lent). (first l).cells) same)

@@ -1,7 +1,7 @@
 //! Two rows side by side.
 #![tactic(auto)]
 
-ghost use Rattle.std.specs.Prelude.{◌≡◌, ◌+◌, ◌++◌, min, IfOk, Ok};
+ghost use Rattle.std.specs.Prelude.{◌≡◌, ◌+◌, ◌++◌, min};
 ghost use Rattle.row.specs.Cores.{count_of};
 ghost use Rattle.pair.specs.Seats.{seat_of};
 ghost use Rattle.pair.specs.Places.{lawful_both};
@@ -11,7 +11,6 @@ use protocol::access::CoreState;
 use row::message::Message;
 use row::operation::Operation;
 use row::{MOST_CORES, Row};
-use std::alloc::AllocError;
 
 /// The cores of two rows, the first row's first.
 #[derive(Drop)]
@@ -35,18 +34,6 @@ impl<R: Row, S: Row> Pair<R, S> {
         ensures { result ≡ min 65535 (first + count_of (R.Row.cores self.now.first)) }
     {
         first.saturating_add(self.first.count())
-    }
-}
-
-impl<R: Row + Drop> Pair<R, R> {
-    /// Two rows as one, each as the closure makes it.
-    pub fn doubled<F: Fn() -> Result<R, AllocError>>(row: F) -> Result<Pair<R, R>, AllocError>
-        requires { F.IsAlwaysCallable row }
-        ensures { IfOk result (λ p. F.post row (Ok p.first) × F.post row (Ok p.second)) }
-    {
-        let first = row()?;
-        let second = row()?;
-        Ok(Pair { first, second })
     }
 }
 

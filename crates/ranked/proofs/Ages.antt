@@ -9,9 +9,9 @@ use Rattle.parts.specs.declared.mark.Mark.{Mark}
 use Rattle.parts.specs.declared.line.Line.{Line}
 use Rattle.tier.specs.Meaning.{TierMeaning, TierCall, put, take, change, touch, clear, line, if_held, look_of, out_of}
 use Rattle.tier.specs.Options.{never}
-use Rattle.ranked.specs.Ranks.{Ranks, find, without, renewed, oldest, younger, ousted, spared, holding, if_found, touched, ranked_step, ranked}
+use Rattle.ranks.specs.Ranks.{Ranks, find, without, renewed, oldest, younger, ousted, spared, holding, if_found, touched, ranked_step, ranked}
 use Rattle.ranked.specs.Ages.{uses, last_use, OldestLeaves}
-use Rattle.ranked.specs.RanksLemmas.{find-block, find-gone}
+use Rattle.ranks.proofs.RanksLemmas.{find-block, find-gone}
 use Rattle.ranked.specs.RankedLaws.{Sound, keeps, spared-none}
 
 -- the last uses rise along the lines, from low on, and lie before t

@@ -5,7 +5,7 @@ use Rattle.parts.specs.declared.line.Line.{Line}
 use Rattle.parts.specs.declared.mark.Mark.TheVariants.{Shared}
 use Rattle.tier.specs.Meaning.{TierMeaning, line}
 use Rattle.ranked.specs.declared.ranked.Ranked.{Ranked}
-use Rattle.ranked.specs.Ranks.{Ranks, find, without, renewed, ranked, apart}
+use Rattle.ranks.specs.Ranks.{Ranks, find, without, renewed, ranked, apart}
 
 abbrev pub ranked_of : {P : Type 0} → (P → Bool) → Ranked P → TierMeaning
 ranked_of renewing r = ranked (renewing r.policy) r.ways (vec_items r.held)

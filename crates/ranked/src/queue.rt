@@ -1,7 +1,7 @@
 //! The queue: a tier of a few lines that gives out the block that was put longest ago.
 ghost use Rattle.std.specs.Prelude.{Bool, false, IfOk};
 ghost use Rattle.tier.specs.Building.{Builds};
-ghost use Rattle.ranked.specs.Ranks.{built};
+ghost use Rattle.ranks.specs.Ranks.{built};
 ghost use Rattle.ranked.specs.Queue.{queue_of};
 ghost use Rattle.ranked.specs.Ages.{OldestLeaves};
 

@@ -1,7 +1,7 @@
 //! A tier of a few lines, any block in any line, ranked by age.
 ghost use Rattle.std.specs.Prelude.{◌≡◌, ◌<◌, ◌≤◌, true, [], ◌∷◌, ◌++◌, IfOk, None, vec_len, vec_capacity};
 ghost use Rattle.tier.specs.Building.{Builds};
-ghost use Rattle.ranked.specs.Ranks.{find, without, ousted, spared, ranked, built, apart};
+ghost use Rattle.ranks.specs.Ranks.{find, without, ousted, spared, ranked, built, apart};
 
 use crate::policy::Replacement;
 use parts::line::Line;

@@ -37,6 +37,16 @@ fn deep_core(heap: Global) -> Result<Core<ThreeLevels>, AllocError> {
     Ok(Core::new(Pile::new(upper, lower)))
 }
 
+// Two rows side by side, each as the closure makes it. Said in two places, since a public function could not
+// take a closure without a precondition.
+fn doubled<R: Row + Drop, F: Fn() -> Result<R, AllocError>>(
+    row: F,
+) -> Result<Pair<R, R>, AllocError>
+    requires { F.IsAlwaysCallable row }
+{
+    Ok(Pair::new(row()?, row()?))
+}
+
 // How many accepted steps are played, on how many blocks.
 #[derive(Clone, Copy)]
 struct Load {
@@ -209,7 +219,7 @@ fn play_two(rt: &HostRuntime, load: Load) -> anyhow::Result<()> {
 
 fn play_eight(rt: &HostRuntime, load: Load) -> anyhow::Result<()> {
     let heap = rt.alloc();
-    let row = Pair::doubled(|| Pair::doubled(|| Pair::doubled(|| deep_core(heap))))?;
+    let row = doubled(|| doubled(|| doubled(|| deep_core(heap))))?;
     play(rt, "eight", row, load)
 }
 

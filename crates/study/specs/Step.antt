@@ -143,9 +143,6 @@ fetch r c a = fetch_by r c a (valid r.memory (block_of a))
 abbrev pub cleaning : RunMeaning → ℕ → ℕ → ℕ → Answer → Outcome
 cleaning r c n s x = accepted r (done r.cores c (Change (line n Shared s))) (after r.memory (store n s)) Nothing Memory Still x
 
-abbrev pub cleaned : RunMeaning → ℕ → ℕ → ℕ → RunMeaning
-cleaned r c n s = (cleaning r c n s (Flushed n)).run
-
 -- the stamp with which core c holds block n modified
 abbrev pub owed : RunMeaning → ℕ → ℕ → Option ℕ
 owed r c n = modified_stamp (look_of (tier_at r.cores c) n)

@@ -3,7 +3,7 @@ use Rattle.std.specs.Prelude.{◌≡◌, ℕ, ◌≤◌, false, List, [], length
 use Rattle.tier.specs.Meaning.{TierMeaning, Lawful as LawfulTier}
 use Rattle.tier.specs.Pile.{pile}
 use Rattle.direct.specs.Lines.{direct, empty}
-use Rattle.ranked.specs.Ranks.{ranked}
+use Rattle.ranks.specs.Ranks.{ranked}
 use Rattle.assoc.specs.Sets.{set_associative, empty as empty-sets}
 use Rattle.memory.specs.declared.cell.Cell.{Cell}
 use Rattle.memory.specs.Meaning.{MemoryMeaning, Lawful as LawfulMemory}

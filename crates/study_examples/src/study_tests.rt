@@ -29,6 +29,16 @@ fn one(heap: Global) -> Result<Core<Direct>, AllocError> {
     Ok(Core::new(tier))
 }
 
+// Two rows side by side, each as the closure makes it. Said in two places, since a public function could not
+// take a closure without a precondition.
+fn doubled<R: Row + Drop, F: Fn() -> Result<R, AllocError>>(
+    row: F,
+) -> Result<Pair<R, R>, AllocError>
+    requires { F.IsAlwaysCallable row }
+{
+    Ok(Pair::new(row()?, row()?))
+}
+
 // The number of the refusal, if there is one, and of what comes back how many cores it has and the stamp of block 0.
 fn opening<R: Row + Drop>(row: R) -> (Option<u8>, u16, Option<u32>) {
     let mut table = [OLD];
@@ -52,9 +62,9 @@ fn opening<R: Row + Drop>(row: R) -> (Option<u8>, u16, Option<u32>) {
 #[test]
 fn cores_are_limited(rt: HostRuntime) -> Result<(), Fail> {
     let heap = rt.alloc();
-    let eight = Pair::doubled(|| Pair::doubled(|| Pair::doubled(|| one(heap))))?;
+    let eight = doubled(|| doubled(|| doubled(|| one(heap))))?;
     assert_eq!(rt; opening(eight), (None, 8, Some(0)));
-    let eight = Pair::doubled(|| Pair::doubled(|| Pair::doubled(|| one(heap))))?;
+    let eight = doubled(|| doubled(|| doubled(|| one(heap))))?;
     let nine = Pair::new(eight, one(heap)?);
     assert_eq!(rt; opening(nine), (Some(1), 9, None));
     Ok(())

@@ -1,7 +1,7 @@
 -- A block that is not there yet may stand last.
 use Rattle.std.proofs.Common.{ap, ◌∙◌}
-use Rattle.ranked.specs.Ranks.{apart}
-use Rattle.ranked.specs.RanksLemmas.{apart-push}
+use Rattle.ranks.specs.Ranks.{apart}
+use Rattle.ranks.proofs.RanksLemmas.{apart-push}
 use Rattle.ranked.proofs.ranked.Ranked.append.Goals as goal
 
 pub invariant_of-self-clause-alone : goal.invariant_of-self-clause-alone

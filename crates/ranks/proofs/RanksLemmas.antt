@@ -4,7 +4,7 @@ use Rattle.std.proofs.Common.{ap, arith, eq-eqb}
 use Rattle.std.proofs.lemmas.Bool.Decides.{nat_tests}
 use Rattle.parts.specs.declared.line.Line.{Line}
 use Rattle.tier.specs.Options.{never, not_some}
-use Rattle.ranked.specs.Ranks.{Ranks, find, without, renewed, oldest, younger, apart}
+use Rattle.ranks.specs.Ranks.{Ranks, find, without, renewed, oldest, younger, apart}
 
 pub find-block : (ls : Ranks) (n : ℕ) (g : Line) → find ls n ≡ Some g → g.block ≡ n
 find-block [] n g e = never g e
