@@ -5,6 +5,7 @@ ghost use Rattle.ranked.specs.Ages.{OldestLeaves};
 ghost use Rattle.assoc.specs.Sets.{index, empty, built, Placed, lrus_of};
 
 use parts::line::Line;
+use parts::place::place_of;
 use parts::refusal::{BuildError, Refusal};
 use ranked::policy::Lru;
 use ranked::ranked::Ranked;
@@ -70,7 +71,7 @@ impl SetAssociative {
     fn set_of(&self, block: u16) -> usize
         ensures { result ≡ index (sets_of self.now) block }
     {
-        usize::from(block) % self.sets.len()
+        place_of(block, self.sets.len())
     }
 }
 

@@ -17,6 +17,11 @@ slot ls n = n % length ls
 abbrev pub at : Lines → ℕ → Option Line
 at ls n = slice_index_or ls (slot ls n) None
 
+-- a line that has block n
+abbrev pub having : Option Line → ℕ → Option Line
+having None n = None
+having (Some g) n = cond (g.block == n) (Some g) None
+
 -- what a line shows of block n
 abbrev pub shows : Option Line → ℕ → Option Holding
 shows None n = None

@@ -1,11 +1,12 @@
 //! A tier of lines, in which each block has one line where it may stand.
-ghost use Rattle.std.specs.Prelude.{◌≡◌, ◌<◌, ◌≤◌, IfOk, vec_len};
+ghost use Rattle.std.specs.Prelude.{◌≡◌, ◌<◌, ◌≤◌, IfOk, None, slice_index_or, vec_len};
 ghost use Rattle.device.specs.Device.{Always};
 ghost use Rattle.tier.specs.Building.{Builds};
-ghost use Rattle.direct.specs.Lines.{slot, direct, empty, built, Placed};
+ghost use Rattle.direct.specs.Lines.{slot, having, direct, empty, built, Placed};
 ghost use Rattle.direct.specs.Mapped.{DirectMapped};
 
 use parts::line::Line;
+use parts::place::place_of;
 use parts::refusal::{BuildError, Refusal};
 use std::alloc::{AllocError, Global};
 use tier::Tier;
@@ -53,7 +54,15 @@ impl Direct {
         ensures value { result ≡ slot self.now.lines.items block }
         ensures within { result < vec_len self.now.lines }
     {
-        usize::from(block) % self.lines.len()
+        place_of(block, self.lines.len())
+    }
+
+    // The line in its slot, if it has the block.
+    fn held(&self, slot: usize, block: u16) -> Option<Line>
+        requires { slot < vec_len self.now.lines }
+        ensures { result ≡ having (slice_index_or self.now.lines.items slot None) block }
+    {
+        self.lines[slot].filter(|line| line.block == block)
     }
 }
 
@@ -70,36 +79,33 @@ impl Tier for Direct {
     }
 
     fn look(&self, block: u16) -> Option<(u8, u32, u8)> {
-        let slot = self.slot(block);
-        self.lines[slot]
-            .filter(|line| line.block == block)
-            .map(Line::shown)
+        self.held(self.slot(block), block).map(Line::shown)
     }
 
     fn put(&mut self, line: Line) -> Result<Option<Line>, Refusal> {
-        if self.look(line.block).is_some() {
+        let slot = self.slot(line.block);
+        if self.held(slot, line.block).is_some() {
             return Err(Refusal::AlreadyHeld);
         }
-        let slot = self.slot(line.block);
         Ok(self.lines[slot].replace(line))
     }
 
     fn take(&mut self, block: u16) -> Option<(u8, u32, u8)> {
-        let shown = self.look(block)?;
         let slot = self.slot(block);
+        let line = self.held(slot, block)?;
         self.lines[slot] = None;
-        Some(shown)
+        Some(line.shown())
     }
 
     fn change(&mut self, line: Line) -> Result<(), Refusal> {
-        self.look(line.block).ok_or(Refusal::NotHeld)?;
         let slot = self.slot(line.block);
+        self.held(slot, line.block).ok_or(Refusal::NotHeld)?;
         self.lines[slot] = Some(line);
         Ok(())
     }
 
     fn touch(&mut self, block: u16) -> Result<(), Refusal> {
-        self.look(block).ok_or(Refusal::NotHeld)?;
+        self.held(self.slot(block), block).ok_or(Refusal::NotHeld)?;
         Ok(())
     }
 

@@ -3,4 +3,5 @@
 
 pub mod line;
 pub mod mark;
+pub mod place;
 pub mod refusal;
