@@ -2,7 +2,7 @@
 ghost use Rattle.std.specs.Prelude.{◌≡◌, Some};
 ghost use Rattle.device.specs.Device.{after};
 ghost use Rattle.tier.specs.Meaning.{clear};
-ghost use Rattle.tier.specs.Pile.{pile, sink, sunk};
+ghost use Rattle.tier.specs.Pile.{pile, deeper, sink, sunk};
 ghost use Rattle.tier.specs.Stacked.{StaysStacked};
 ghost use Rattle.tier.specs.PileLaws.{pile-lawful};
 
@@ -37,13 +37,32 @@ impl<U: Tier, L: Tier> Pile<U, L> {
     }
 }
 
-/// Takes the block out of the tier, if it is there too, and puts the line into it.
-fn sink_into<L: Tier>(lower: &mut L, line: Line) -> Option<Line>
+// What the lower tier shows of a block, seen from above so many levels.
+fn deepened(depth: u8, shown: (u8, u32, u8)) -> (u8, u32, u8)
+    ensures { result ≡ deeper depth shown }
+{
+    let (mark, stamp, level) = shown;
+    (mark, stamp, depth.saturating_add(level).min(4))
+}
+
+// Takes the block out of the tier, and puts the line into it.
+fn replace_in<L: Tier>(lower: &mut L, line: Line) -> Option<Line>
     ensures answer { result ≡ sunk (L.Tier.meaning lower.old) (Some line) }
     ensures next { L.Tier.meaning lower.new ≡ sink (L.Tier.meaning lower.old) (Some line) }
 {
     let _ = lower.take(line.block);
     lower.put(line).unwrap_or(None)
+}
+
+// The same. A block that is not held need not be taken out, and only a put of a held one is refused: mostly one lookup is saved.
+fn sink_into<L: Tier>(lower: &mut L, line: Line) -> Option<Line>
+    ensures answer { result ≡ sunk (L.Tier.meaning lower.old) (Some line) }
+    ensures next { L.Tier.meaning lower.new ≡ sink (L.Tier.meaning lower.old) (Some line) }
+{
+    match lower.put(line) {
+        Ok(out) => out,
+        Err(_) => replace_in(lower, line),
+    }
 }
 
 impl<U: Tier, L: Tier> Tier for Pile<U, L> {
@@ -59,12 +78,13 @@ impl<U: Tier, L: Tier> Tier for Pile<U, L> {
         if let Some(shown) = self.upper.look(block) {
             return Some(shown);
         }
-        let (mark, stamp, level) = self.lower.look(block)?;
-        Some((mark, stamp, (self.upper.depth() + level).min(4)))
+        let shown = self.lower.look(block)?;
+        Some(deepened(self.upper.depth(), shown))
     }
 
+    // A call of a part that the part refuses alters nothing, so each block is looked up but once in each part.
     fn put(&mut self, line: Line) -> Result<Option<Line>, Refusal> {
-        if self.look(line.block).is_some() {
+        if self.lower.look(line.block).is_some() {
             return Err(Refusal::AlreadyHeld);
         }
         let Some(fallen) = self.upper.put(line)? else {
@@ -75,10 +95,13 @@ impl<U: Tier, L: Tier> Tier for Pile<U, L> {
     }
 
     fn take(&mut self, block: u16) -> Option<(u8, u32, u8)> {
-        let shown = self.look(block);
-        let _ = self.upper.take(block);
-        let _ = self.lower.take(block);
-        shown
+        let depth = self.upper.depth();
+        let above = self.upper.take(block);
+        let below = self.lower.take(block);
+        if above.is_some() {
+            return above;
+        }
+        Some(deepened(depth, below?))
     }
 
     fn change(&mut self, line: Line) -> Result<(), Refusal> {

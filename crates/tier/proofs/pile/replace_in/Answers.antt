@@ -1,7 +1,7 @@
 -- A block that was taken out is not held, so its put is not refused.
 use Rattle.std.proofs.Common.{rules}
 use Rattle.tier.proofs.Moves.{put-taken}
-use Rattle.tier.proofs.pile.sink_into.Goals as goal
+use Rattle.tier.proofs.pile.replace_in.Goals as goal
 
 pub returns-clause-answer : goal.returns-clause-answer
 returns-clause-answer g c =
