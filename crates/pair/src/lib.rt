@@ -3,7 +3,6 @@
 
 ghost use Rattle.std.specs.Prelude.{◌≡◌, ◌+◌, ◌++◌, min};
 ghost use Rattle.row.specs.Cores.{count_of};
-ghost use Rattle.pair.specs.Seats.{seat_of};
 ghost use Rattle.pair.specs.Places.{lawful_both};
 
 use parts::line::Line;
@@ -37,28 +36,7 @@ impl<R: Row, S: Row> Pair<R, S> {
     }
 }
 
-/// Where a core of a pair stands: in one of the rows, by its number there.
-// Each call of a pair matches on the seat for itself: the two rows are of different types, and no closure takes a row of either.
-#[derive(Clone, Copy, PartialEq, Eq, Debug)]
-enum Seat {
-    First(u16),
-    Second(u16),
-    Nowhere,
-}
-
-// The seat of a core, if the first row has so many.
-fn seat_in(before: u16, core: u16) -> Seat
-    ensures { result ≡ seat_of before core }
-{
-    if core >= MOST_CORES {
-        Seat::Nowhere
-    } else if core < before {
-        Seat::First(core)
-    } else {
-        Seat::Second(core - before)
-    }
-}
-
+// Each call that names a core tells for itself which row has it: the rows are of different types, and no closure takes either.
 impl<R: Row, S: Row> Row for Pair<R, S> {
     ghost cores = { λ p. R.Row.cores p.first ++ S.Row.cores p.second };
 
@@ -70,37 +48,50 @@ impl<R: Row, S: Row> Row for Pair<R, S> {
 
     #[tactic(auto, using(crate::proofs::Seated::by_seat), unfolding(row::specs::Cores::absent))]
     fn state(&self, core: u16) -> CoreState {
-        match seat_in(self.first.count(), core) {
-            Seat::First(core) => self.first.state(core),
-            Seat::Second(core) => self.second.state(core),
-            Seat::Nowhere => CoreState::Ready,
+        let before = self.first.count();
+        if core >= MOST_CORES {
+            CoreState::Ready
+        } else if core < before {
+            self.first.state(core)
+        } else {
+            self.second.state(core - before)
         }
     }
 
     #[tactic(auto, using(crate::proofs::Seated::by_seat), unfolding(row::specs::Cores::absent))]
     fn turn(&mut self, core: u16, state: CoreState) {
-        match seat_in(self.first.count(), core) {
-            Seat::First(core) => self.first.turn(core, state),
-            Seat::Second(core) => self.second.turn(core, state),
-            Seat::Nowhere => {}
+        let before = self.first.count();
+        if core >= MOST_CORES {
+            return;
+        }
+        if core < before {
+            self.first.turn(core, state);
+        } else {
+            self.second.turn(core - before, state);
         }
     }
 
     #[tactic(auto, using(crate::proofs::Seated::by_seat), unfolding(row::specs::Cores::absent))]
     fn look(&self, core: u16, block: u16) -> Option<(u8, u32, u8)> {
-        match seat_in(self.first.count(), core) {
-            Seat::First(core) => self.first.look(core, block),
-            Seat::Second(core) => self.second.look(core, block),
-            Seat::Nowhere => None,
+        let before = self.first.count();
+        if core >= MOST_CORES {
+            None
+        } else if core < before {
+            self.first.look(core, block)
+        } else {
+            self.second.look(core - before, block)
         }
     }
 
     #[tactic(auto, using(crate::proofs::Seated::by_seat), unfolding(row::specs::Cores::absent))]
     fn operate(&mut self, core: u16, operation: Operation) -> Option<Line> {
-        match seat_in(self.first.count(), core) {
-            Seat::First(core) => self.first.operate(core, operation),
-            Seat::Second(core) => self.second.operate(core, operation),
-            Seat::Nowhere => None,
+        let before = self.first.count();
+        if core >= MOST_CORES {
+            None
+        } else if core < before {
+            self.first.operate(core, operation)
+        } else {
+            self.second.operate(core - before, operation)
         }
     }
 
