@@ -1,5 +1,5 @@
 -- The counts of a run are those of its answers.
-use Rattle.std.proofs.Common.{◌≡◌, ℕ, ◌+◌, ◌*◌, ◌<◌, ◌≤◌, Bool, true, false, cond, eqb, List, [], ◌∷◌, Some, Ok, sym, refl, ap, ◌∙◌, subst, arith}
+use Rattle.std.proofs.Common.{◌≡◌, ℕ, ◌+◌, ◌*◌, ◌<◌, ◌≤◌, Bool, true, false, cond, eqb, List, [], ◌∷◌, Some, Ok, sym, refl, ap, ◌∙◌, subst, add-zero, arith}
 use Rattle.memory.specs.Meaning.{MemoryMeaning}
 use Rattle.protocol.specs.declared.answer.Answer.{Answer}
 use Rattle.protocol.specs.declared.answer.Answer.TheVariants.{Waits, Brought, Read, Wrote, Flushed, Committed}
@@ -13,13 +13,13 @@ use Rattle.protocol.specs.declared.weights.Prices.{Prices}
 use Rattle.protocol.specs.Prices.{price}
 use Rattle.row.specs.Cores.{CoreMeaning}
 use Rattle.study.specs.Run.{RunMeaning, Outcome, writes_of, accesses_of}
-use Rattle.study.specs.Step.{accepted, refused, step}
+use Rattle.study.specs.Step.{charged, accepted, refused, step}
 use Rattle.study.specs.Opening.{opened}
 use Rattle.study.specs.Play.{played, history}
 use Rattle.study.specs.Words.{is_accepted, is_wrote, is_access, one_if, counted}
-use Rattle.study.specs.Report.{charged_for, Reported, RisesFrom}
+use Rattle.study.specs.Report.{charged_for, pushed_out, ServedFrom, Costs, AddUpFrom, Reported}
 use Rattle.protocol.specs.Prices.{Affordable}
-use Rattle.study.proofs.Outcomes.{performed_by, of_step}
+use Rattle.study.proofs.Outcomes.{Served, Moved, performed_by, of_step}
 
 -- no movement costs more than 1,000
 priced : (w : Prices) → Affordable w → (a : Movement) → price w a ≤ 1000
@@ -44,9 +44,29 @@ record Fair (r : RunMeaning) (o : Outcome) : Type 0 where
   writes : o.run.tally.writes ≡ r.tally.writes + says is_wrote o
   accesses : o.run.tally.accesses ≡ r.tally.accesses + says is_access o
   total : o.run.tally.total ≡ r.tally.total + o.charge
+  cost : Costs r.prices o.answer o.charge
   cheap : Affordable r.prices → o.charge ≤ 2000 * says is_accepted o
   few : r.tally.steps ≤ 1000000 → o.run.tally.steps ≤ 1000000
   same : is_accepted (word_of o.answer) ≡ false → o.run ≡ r
+
+-- what a call is charged for its two movements is what its answer costs
+leaver_cost : (w : Prices) (x : Bool) → price w (cond x Memory Still) ≡ pushed_out w x
+leaver_cost w true = refl
+leaver_cost w false = refl
+
+sum_of : (w : Prices) (a b a' b' : Movement) {k : ℕ} → a ≡ a' → b ≡ b' → price w b' ≡ k → charged w a b ≡ price w a' + k
+sum_of w a b a' b' p q r = let p' = ap (price w) p in let q' = ap (price w) q in omega (arith, p', q', r)
+
+served_cost : (w : Prices) (a b : Movement) → Served a b → ServedFrom w (charged w a b)
+served_cost w a b (l, x, first, p, q) = (l, x, first, sum_of w a b (FromLevel l) (cond x Memory Still) p q (leaver_cost w x))
+
+moved_cost : (w : Prices) (a b : Movement) (x : Answer) → Moved x a b → Costs w (Ok x) (charged w a b)
+moved_cost w a b (Waits n) (p, q) = sum_of w a b Still Still p q refl
+moved_cost w a b (Brought n) (p, (x, q)) = (x, sum_of w a b Memory (cond x Memory Still) p q (leaver_cost w x))
+moved_cost w a b (Read s) h = served_cost w a b h
+moved_cost w a b (Wrote s) h = served_cost w a b h
+moved_cost w a b (Flushed n) (p, q) = sum_of w a b Memory Still p q refl ∙ add-zero w.wm
+moved_cost w a b (Committed x) (p, q) = sum_of w a b (cond x Memory Still) Still p q refl ∙ add-zero _ ∙ leaver_cost w x
 
 -- an answer's word says what was performed
 word_says : (x : Answer) → (is_accepted (word_of (Ok x)) ≡ true) × (writes_of (performed_by x) ≡ one_if is_wrote (Some (Ok x))) × (accesses_of (performed_by x) ≡ one_if is_access (Some (Ok x)))
@@ -65,14 +85,15 @@ module _ (r : RunMeaning) where
     writes = omega arith;
     accesses = omega arith;
     total = omega arith;
+    cost = refl;
     cheap = λ h. omega arith;
     few = λ h. h;
     same = λ h. refl;
   }
 
   fair-accepted : r.tally.steps < 1000000 → (cs : List CoreMeaning) (m : MemoryMeaning) → Unit {0}
-      → (a b : Movement) (x : Answer) → Fair r (accepted r cs m (performed_by x) a b x)
-  fair-accepted room cs m _ a b x =
+      → (a b : Movement) (x : Answer) → Moved x a b → Fair r (accepted r cs m (performed_by x) a b x)
+  fair-accepted room cs m _ a b x moved =
       let word = word_says x in
       let one : one_if is_accepted (Some (Ok x)) ≡ 1 = ap (λ t. cond t 1 0) word.0 in
       record {
@@ -81,6 +102,7 @@ module _ (r : RunMeaning) where
         writes = ap (λ i. r.tally.writes + i) word.1;
         accesses = ap (λ i. r.tally.accesses + i) word.2;
         total = refl;
+        cost = moved_cost r.prices a b x moved;
         cheap = λ h. omega (arith, priced r.prices h a, priced r.prices h b);
         few = λ h. omega arith;
         same = λ h. absurd (true_false (sym word.0 ∙ h));
@@ -127,13 +149,14 @@ counts (k ∷ ks) r =
       few = λ h. rest.few (here.few h);
     }
 
--- the totals that are noted rise by what the steps charge
-rises : (ks : List Call) (r : RunMeaning) → Affordable r.prices → RisesFrom r.tally.total (history r ks)
-unfolding history RisesFrom
-rises [] r ok = tt
-rises (k ∷ ks) r ok =
+-- the totals that are noted add up
+adds_up : (ks : List Call) (r : RunMeaning) → AddUpFrom r.prices r.tally.total (history r ks)
+unfolding history AddUpFrom
+adds_up [] r = tt
+adds_up (k ∷ ks) r =
     let here = fair-step r k in
-    (omega (arith, here.total), omega (arith, here.total, here.cheap ok), rises ks (step r k).run (subst Affordable (sym here.prices) ok))
+    let next = (step r k).run in
+    ((step r k).charge, here.cost, here.total, subst (λ w. AddUpFrom w next.tally.total (history next ks)) here.prices (adds_up ks next))
 
 -- at most one
 one-most : (b : Bool) → cond b 1 0 ≤ 1
@@ -150,7 +173,7 @@ reported cs m w ok ks =
       writes = omega (arith, all.writes);
       accesses = omega (arith, all.accesses);
       total = omega (arith, all.total);
-      totals = rises ks r ok;
+      totals = adds_up ks r;
       charges = λ k. omega (arith, (fair-step end k).cheap (subst Affordable (sym all.prices) ok), one-most (is_accepted (word_of (step end k).answer)));
       most_steps = all.few (omega arith);
       most_total = omega (arith, all.total, all.steps, all.cheap ok);

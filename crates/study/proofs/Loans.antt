@@ -14,7 +14,7 @@ use Rattle.study.proofs.Outcomes.{of_step}
 -- what each call of a memory keeps, each call of a run keeps
 module _ (P : MemoryMeaning → Type 0) (next : (m : MemoryMeaning) (c : MemoryCall) → P m → P (after m c)) where
   pub step_keeps : (r : RunMeaning) (k : Call) → P r.memory → P (step r k).run.memory
-  step_keeps r k h = of_step P next r h (λ (o : Outcome). P o.run.memory) (λ e. h) (λ room cs m p a b x. p) k
+  step_keeps r k h = of_step P next r h (λ (o : Outcome). P o.run.memory) (λ e. h) (λ room cs m p a b x q. p) k
 
   pub played-keeps : (ks : List Call) (r : RunMeaning) → P r.memory → P (played r ks).memory
   unfolding played

@@ -1,9 +1,10 @@
 -- Every step is refused or accepted: what holds of both holds of every step.
-use Rattle.std.proofs.Common.{◌≡◌, ℕ, ◌<◌, Bool, true, false, ltb, List, Some, None, Option, refl, ltb-true}
+use Rattle.std.proofs.Common.{◌≡◌, ℕ, ◌<◌, Bool, true, false, cond, eqb, ltb, List, Some, None, Option, refl, ap, ltb-true}
 use Rattle.device.specs.Device.{after}
 use Rattle.parts.specs.declared.mark.Mark.{Mark}
 use Rattle.parts.specs.declared.mark.Mark.TheVariants.{Shared, Modified}
 use Rattle.parts.specs.declared.line.Line.{Line}
+use Rattle.parts.specs.Marks.{mark_of}
 use Rattle.tier.specs.Meaning.{Holding, look_of}
 use Rattle.memory.specs.Meaning.{MemoryMeaning, MemoryCall, store, stale, size_of}
 use Rattle.protocol.specs.declared.access.Access.{Access}
@@ -20,11 +21,12 @@ use Rattle.protocol.specs.declared.weights.Movement.{Movement}
 use Rattle.protocol.specs.declared.weights.Movement.TheVariants.{Still, FromLevel, Memory}
 use Rattle.protocol.specs.Accesses.{block_of}
 use Rattle.protocol.specs.Calls.{core_of, fits_in}
+use Rattle.moves.specs.Moves.{put_back_out}
 use Rattle.row.specs.Cores.{CoreMeaning, count_of, tier_at, state_at, met, awaited}
 use Rattle.study.specs.declared.effect.Performed.{Performed}
 use Rattle.study.specs.declared.effect.Performed.TheVariants.{Nothing, Read as ARead, Write as AWrite}
 use Rattle.study.specs.Run.{RunMeaning, Outcome}
-use Rattle.study.specs.Step.{valid, left_as, left, leaving, accepted, refused, provided, brought_up, pushed_out, recalled, alone_memory, is_modified, access_by, access, fetched_line, fetch_by, owed, flush_by, commit_by, act, step}
+use Rattle.study.specs.Step.{valid, left_as, left, leaving_as, leaving, accepted, refused, provided, brought_up, pushed_out, recalled, alone_memory, is_modified, access_by, access, fetched_line, fetch_by, owed, flush_by, commit_by, act, step}
 
 -- what was performed, by the answer
 abbrev pub performed_by : Answer → Performed
@@ -34,6 +36,45 @@ performed_by (WasRead s) = ARead
 performed_by (Wrote s) = AWrite
 performed_by (Flushed n) = Nothing
 performed_by (Committed b) = Nothing
+
+-- the two movements of an accepted call, by its answer
+abbrev pub Leaver : Movement → Type 0
+Leaver b = (x : Bool) × (b ≡ cond x Memory Still)
+
+abbrev pub Served : Movement → Movement → Type 0
+Served a b = (l : ℕ) × (x : Bool) × (l ≡ 1 → x ≡ false) × (a ≡ FromLevel l) × (b ≡ cond x Memory Still)
+
+abbrev pub Moved : Answer → Movement → Movement → Type 0
+Moved (Waits n) a b = (a ≡ Still) × (b ≡ Still)
+Moved (Brought n) a b = (a ≡ Memory) × Leaver b
+Moved (WasRead s) a b = Served a b
+Moved (Wrote s) a b = Served a b
+Moved (Flushed n) a b = (a ≡ Memory) × (b ≡ Still)
+Moved (Committed x) a b = (a ≡ cond x Memory Still) × (b ≡ Still)
+
+-- whether memory takes a line that leaves
+abbrev is_taken : Mark → Bool
+is_taken Shared = false
+is_taken Modified = true
+
+abbrev is_leaving : Option Line → Bool
+is_leaving None = false
+is_leaving (Some g) = is_taken g.mark
+
+leaver : (o : Option Line) → leaving o ≡ cond (is_leaving o) Memory Still
+leaver None = refl
+leaver (Some g) = go g.mark
+  where
+    go : (k : Mark) → leaving_as k ≡ cond (is_taken k) Memory Still
+    go Shared = refl
+    go Modified = refl
+
+-- nothing leaves for a block that is held at level 1
+served : (r : RunMeaning) (c n : ℕ) (h : Holding) → Served (FromLevel h.2) (leaving (pushed_out r c n h))
+served r c n h = (h.2, is_leaving (pushed_out r c n h), stays, refl, leaver (pushed_out r c n h))
+  where
+    stays : h.2 ≡ 1 → is_leaving (pushed_out r c n h) ≡ false
+    stays e = ap (λ i. is_leaving (cond (eqb i 1) None (put_back_out (tier_at r.cores c) n (mark_of h.0) h.1))) e
 
 -- P holds of a memory after a call, if it held before
 module _ (P : MemoryMeaning → Type 0) (next : (m : MemoryMeaning) (c : MemoryCall) → P m → P (after m c)) where
@@ -56,35 +97,35 @@ module _ (P : MemoryMeaning → Type 0) (next : (m : MemoryMeaning) (c : MemoryC
   -- Q holds of each refused call and, where there is room for a step, of each accepted one that leaves such a memory
   module _ (r : RunMeaning) (start : P r.memory) (Q : Outcome → Type 0) (no : (e : Refusal) → Q (refused r e))
       (yes : r.tally.steps < 1000000 → (cs : List CoreMeaning) (m : MemoryMeaning) → P m
-      → (a b : Movement) (x : Answer) → Q (accepted r cs m (performed_by x) a b x)) where
+      → (a b : Movement) (x : Answer) → Moved x a b → Q (accepted r cs m (performed_by x) a b x)) where
     if_provided : (b : Bool) (e : Refusal) (o : Outcome) → Q o → Q (provided b e r o)
     if_provided true e o h = h
     if_provided false e o h = no e
 
     module _ (room : r.tally.steps < 1000000) where
       of_access : (c : ℕ) (a : Access) (o : Option Holding) → Q (access_by r c a o)
-      of_access c a None = yes room _ _ start Still Still (Waits (block_of a))
+      of_access c a None = yes room _ _ start Still Still (Waits (block_of a)) (refl, refl)
       of_access c (ToRead n) (Some h) =
           let out = pushed_out r c n h in
-          yes room _ _ (left-keeps out r.memory start) (FromLevel h.2) (leaving out) (WasRead h.1)
+          yes room _ _ (left-keeps out r.memory start) (FromLevel h.2) (leaving out) (WasRead h.1) (served r c n h)
       of_access c (ToWrite n) (Some h) =
           let out = pushed_out r c n h in
           yes room _ _ (alone-keeps (is_modified h) c n (brought_up r c n h) (left out r.memory) (left-keeps out r.memory start))
-          (FromLevel h.2) (leaving out) (Wrote _)
+          (FromLevel h.2) (leaving out) (Wrote _) (served r c n h)
 
       of_fetch : (c : ℕ) (a : Access) (o : Option ℕ) → Q (fetch_by r c a o)
       of_fetch c a None = no StaleBlock
       of_fetch c a (Some s) =
           let out = fetched_line r c a s in
-          yes room _ _ (left-keeps out r.memory start) Memory (leaving out) (Brought (block_of a))
+          yes room _ _ (left-keeps out r.memory start) Memory (leaving out) (Brought (block_of a)) (refl, (is_leaving out, leaver out))
 
       of_flush : (c n : ℕ) (o : Option ℕ) → Q (flush_by r c n o)
       of_flush c n None = no NotOwed
-      of_flush c n (Some s) = if_provided (awaited 0 c n r.cores) NotOwed _ (yes room _ _ (next r.memory (store n s) start) Memory Still (Flushed n))
+      of_flush c n (Some s) = if_provided (awaited 0 c n r.cores) NotOwed _ (yes room _ _ (next r.memory (store n s) start) Memory Still (Flushed n) (refl, refl))
 
       of_commit : (c n : ℕ) (o : Option ℕ) → Q (commit_by r c n o)
-      of_commit c n None = yes room _ _ start Still Still (Committed false)
-      of_commit c n (Some s) = yes room _ _ (next r.memory (store n s) start) Memory Still (Committed true)
+      of_commit c n None = yes room _ _ start Still Still (Committed false) (refl, refl)
+      of_commit c n (Some s) = yes room _ _ (next r.memory (store n s) start) Memory Still (Committed true) (refl, refl)
 
       by_access : (c : ℕ) (a : Access) → Q (access r c a)
       by_access c a = of_access c a (look_of (tier_at r.cores c) (block_of a))

@@ -1,27 +1,50 @@
 -- What a reader of the report can check, over whole schedules.
-use Rattle.std.specs.Prelude.{◌≡◌, ℕ, ◌+◌, ◌*◌, ◌≤◌, false, List, [], ◌∷◌, Some, None, Option}
+use Rattle.std.specs.Prelude.{◌≡◌, ℕ, ◌+◌, ◌*◌, ◌≤◌, Bool, false, cond, List, [], ◌∷◌, Some, None, Ok, Err, Option, Result}
+use Rattle.protocol.specs.declared.answer.Answer.{Answer}
+use Rattle.protocol.specs.declared.answer.Answer.TheVariants.{Waits, Brought, Read, Wrote, Flushed, Committed}
 use Rattle.protocol.specs.declared.call.Call.{Call}
+use Rattle.protocol.specs.declared.refusal.Refusal.{Refusal}
+use Rattle.protocol.specs.declared.weights.Prices.{Prices}
 use Rattle.protocol.specs.Answers.{word_of}
+use Rattle.protocol.specs.Prices.{level_price}
 use Rattle.study.specs.declared.turn.Played.{Played}
 use Rattle.study.specs.declared.turn.Turn.{Turn}
 use Rattle.study.specs.Run.{RunMeaning}
 use Rattle.study.specs.Step.{step}
 use Rattle.study.specs.Play.{played, history}
-use Rattle.study.specs.Words.{is_accepted, is_wrote, is_access, one_if, counted}
+use Rattle.study.specs.Words.{is_accepted, is_wrote, is_access, counted}
 
 -- the sum of what the calls were charged, from the run r on
 unfoldable pub charged_for : RunMeaning → List Call → ℕ
 charged_for r [] = 0
 charged_for r (k ∷ ks) = (step r k).charge + charged_for (step r k).run ks
 
--- the totals noted in a history: each step adds to the total before it, at most 2,000, and a refused one adds nothing
-abbrev pub RisesBy : ℕ → Option Played → (ℕ → Type 0) → Type 0
-RisesBy before None rest = ⊥
-RisesBy before (Some p) rest = (before ≤ p.total) × (p.total ≤ before + 2000 * one_if is_accepted (Some p.answer)) × rest p.total
+-- what it costs, at the weights w, where a modified line leaves the caches
+abbrev pub pushed_out : Prices → Bool → ℕ
+pushed_out w b = cond b w.wm 0
 
-unfoldable pub RisesFrom : ℕ → List Turn → Type 0
-RisesFrom before [] = Unit {0}
-RisesFrom before (t ∷ ts) = RisesBy before t.played (λ total. RisesFrom total ts)
+-- an access of a block that was held at some level; only below level 1 may a line leave for it
+abbrev pub ServedFrom : Prices → ℕ → Type 0
+ServedFrom w c = (l : ℕ) × (b : Bool) × (l ≡ 1 → b ≡ false) × (c ≡ level_price w l + pushed_out w b)
+
+-- what a call that is answered so is charged
+abbrev pub Costs : Prices → Result Answer Refusal → ℕ → Type 0
+Costs w (Ok (Waits n)) c = c ≡ 0
+Costs w (Ok (Brought n)) c = (b : Bool) × (c ≡ w.wm + pushed_out w b)
+Costs w (Ok (Read s)) c = ServedFrom w c
+Costs w (Ok (Wrote s)) c = ServedFrom w c
+Costs w (Ok (Flushed n)) c = c ≡ w.wm
+Costs w (Ok (Committed b)) c = c ≡ cond b w.wm 0
+Costs w (Err e) c = c ≡ 0
+
+-- each total noted in a history is the one before it and what the answer costs
+abbrev pub AddsUp : Prices → ℕ → Option Played → (ℕ → Type 0) → Type 0
+AddsUp w before None rest = ⊥
+AddsUp w before (Some p) rest = (c : ℕ) × Costs w p.answer c × (p.total ≡ before + c) × rest p.total
+
+unfoldable pub AddUpFrom : Prices → ℕ → List Turn → Type 0
+AddUpFrom w before [] = Unit {0}
+AddUpFrom w before (t ∷ ts) = AddsUp w before t.played (λ total. AddUpFrom w total ts)
 
 -- of a run r that has counted nothing yet
 pub record Reported (r : RunMeaning) (ks : List Call) : Type 0 where
@@ -31,7 +54,7 @@ pub record Reported (r : RunMeaning) (ks : List Call) : Type 0 where
   pub accesses : (played r ks).tally.accesses ≡ counted is_access (history r ks)
   -- the total is the sum of what the steps charged, at most 2,000 each
   pub total : (played r ks).tally.total ≡ charged_for r ks
-  pub totals : RisesFrom 0 (history r ks)
+  pub totals : AddUpFrom r.prices 0 (history r ks)
   pub charges : (k : Call) → (step (played r ks) k).charge ≤ 2000
   pub most_steps : (played r ks).tally.steps ≤ 1000000
   pub most_total : (played r ks).tally.total ≤ 2000 * (played r ks).tally.steps
