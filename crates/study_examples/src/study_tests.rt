@@ -1,5 +1,6 @@
 //! Studies: the limits of cores, weights and steps, and the nine calls. What is written for any row is checked sooner.
 use direct::direct::Direct;
+use lent_study::simulate_in_table;
 use machine::two_cores;
 use memory::Memory;
 use memory::cell::{Cell, State};
@@ -21,6 +22,11 @@ use study::turn::{Played, Turn};
 const OLD: Cell = Cell {
     state: State::Stale,
     stamp: 7,
+};
+
+const NEW: Cell = Cell {
+    state: State::Valid,
+    stamp: 0,
 };
 
 // A core with one line.
@@ -180,7 +186,6 @@ fn nine<R: Row + Drop>(rt: &impl Abort, row: R) {
         (Ok(Answer::Read(1)), 300),
     ];
     let mut table = [OLD; 16];
-    let mut draft = Draft::new(row, Flat::over(&mut table));
     let prices = Prices {
         w1: 0,
         w2: 10,
@@ -188,26 +193,41 @@ fn nine<R: Row + Drop>(rt: &impl Abort, row: R) {
         w4: 10,
         wm: 100,
     };
-    assert_eq!(rt; draft.weigh(prices), Ok(()));
     let expected_quote = Quote {
         accesses: 3,
         total: 300,
         figure: Some(10_000),
     };
-    assert_eq!(rt; quote(draft, &mut schedule), Some(expected_quote));
+    assert_eq!(rt;
+        simulate_in_table(row, &mut table, prices, &mut schedule),
+        Ok(expected_quote)
+    );
     assert_eq!(rt; first_wrong(&schedule, &expected), None);
     // the table that was lent
-    let memory = Flat::over(&mut table);
-    for block in 0..16 {
-        assert_eq!(rt;
-            memory.ask(block).unwrap_or(None),
-            Some(u32::from(block == 3))
-        );
-    }
+    let mut left = [NEW; 16];
+    left[3].stamp = 1;
+    assert_eq!(rt; table, left);
+}
+
+// A study that is refused leaves table and schedule as they were.
+fn too_dear<R: Row + Drop>(rt: &impl Abort, row: R) {
+    let mut table = [OLD; 2];
+    let mut schedule = [Turn::new(Call::Read(0, 0))];
+    let prices = Prices {
+        wm: 1001,
+        ..Prices::default()
+    };
+    assert_eq!(rt;
+        simulate_in_table(row, &mut table, prices, &mut schedule),
+        Err(Refusal::WeightTooHigh)
+    );
+    assert_eq!(rt; table, [OLD; 2]);
+    assert_eq!(rt; schedule, [Turn::new(Call::Read(0, 0))]);
 }
 
 #[test]
-fn nine_calls(rt: HostRuntime) -> Result<(), Fail> {
+fn lent_tables(rt: HostRuntime) -> Result<(), Fail> {
     nine(&rt, two_cores(rt.alloc())?);
+    too_dear(&rt, one(rt.alloc())?);
     Ok(())
 }
