@@ -85,11 +85,11 @@ impl Tier for SetAssociative {
 
     ghost lawful = { λ t. sets_lawful (sets_of t) (good_of t) };
 
-    fn depth(&self) -> u8 {
+    fn depth(&self) -> u32 {
         1
     }
 
-    fn look(&self, block: u16) -> Option<(u8, u32, u8)> {
+    fn look(&self, block: u16) -> Option<(u32, u32, u32)> {
         self.sets[self.set_of(block)].look(block)
     }
 
@@ -98,7 +98,7 @@ impl Tier for SetAssociative {
         self.sets[set].put(line)
     }
 
-    fn take(&mut self, block: u16) -> Option<(u8, u32, u8)> {
+    fn take(&mut self, block: u16) -> Option<(u32, u32, u32)> {
         let set = self.set_of(block);
         self.sets[set].take(block)
     }

@@ -74,11 +74,11 @@ impl Tier for Direct {
 
     ghost lawful = { direct_of-lawful };
 
-    fn depth(&self) -> u8 {
+    fn depth(&self) -> u32 {
         1
     }
 
-    fn look(&self, block: u16) -> Option<(u8, u32, u8)> {
+    fn look(&self, block: u16) -> Option<(u32, u32, u32)> {
         self.held(self.slot(block), block).map(Line::shown)
     }
 
@@ -90,7 +90,7 @@ impl Tier for Direct {
         Ok(self.lines[slot].replace(line))
     }
 
-    fn take(&mut self, block: u16) -> Option<(u8, u32, u8)> {
+    fn take(&mut self, block: u16) -> Option<(u32, u32, u32)> {
         let slot = self.slot(block);
         let line = self.held(slot, block)?;
         self.lines[slot] = None;

@@ -18,8 +18,8 @@ enum Step {
     Put(u16, Option<u16>),
     // The number of the refusal.
     PutRefused(u16, u8),
-    Look(u16, Option<(u8, u32, u8)>),
-    Take(u16, Option<(u8, u32, u8)>),
+    Look(u16, Option<(u32, u32, u32)>),
+    Take(u16, Option<(u32, u32, u32)>),
     // To modified with stamp 9; or the number of the refusal.
     Change(u16, Result<(), u8>),
     Touch(u16, Result<(), u8>),

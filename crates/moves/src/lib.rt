@@ -20,7 +20,7 @@ pub fn put_block<T: Tier>(tier: &mut T, line: Line) -> Option<Line>
 }
 
 // Takes a block that is held below level 1, and puts it again with its mark and stamp.
-fn put_back<T: Tier>(tier: &mut T, block: u16, mark: u8, stamp: u32) -> Option<Line>
+fn put_back<T: Tier>(tier: &mut T, block: u16, mark: u32, stamp: u32) -> Option<Line>
     ensures answer { result ≡ put_back_out (T.Tier.meaning tier.old) block (mark_of mark) stamp }
     ensures next { T.Tier.meaning tier.new ≡ put_back (T.Tier.meaning tier.old) block (mark_of mark) stamp }
 {
@@ -30,7 +30,7 @@ fn put_back<T: Tier>(tier: &mut T, block: u16, mark: u8, stamp: u32) -> Option<L
 }
 
 /// Brings a block that is held so up to level 1, and gives out the one that leaves for it.
-pub fn bring_up<T: Tier>(tier: &mut T, block: u16, held: (u8, u32, u8)) -> Option<Line>
+pub fn bring_up<T: Tier>(tier: &mut T, block: u16, held: (u32, u32, u32)) -> Option<Line>
     ensures answer { result ≡ raised_out (T.Tier.meaning tier.old) block held }
     ensures next { T.Tier.meaning tier.new ≡ raised (T.Tier.meaning tier.old) block held }
 {
@@ -43,11 +43,11 @@ pub fn bring_up<T: Tier>(tier: &mut T, block: u16, held: (u8, u32, u8)) -> Optio
 }
 
 /// The stamp of a copy that is modified.
-pub fn modified_stamp(held: Option<(u8, u32, u8)>) -> Option<u32>
+pub fn modified_stamp(held: Option<(u32, u32, u32)>) -> Option<u32>
     ensures { result ≡ modified_stamp held }
 {
     let (mark, stamp, _) = held?;
-    (mark == u8::from(Mark::Modified)).then_some(stamp)
+    (mark == u32::from(Mark::Modified)).then_some(stamp)
 }
 
 /// Drops a block, and tells its stamp if the copy was modified.

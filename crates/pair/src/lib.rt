@@ -72,7 +72,7 @@ impl<R: Row, S: Row> Row for Pair<R, S> {
     }
 
     #[tactic(auto, using(crate::proofs::Seated::by_seat), unfolding(row::specs::Cores::absent))]
-    fn look(&self, core: u16, block: u16) -> Option<(u8, u32, u8)> {
+    fn look(&self, core: u16, block: u16) -> Option<(u32, u32, u32)> {
         let before = self.first.count();
         if core >= MOST_CORES {
             None

@@ -14,9 +14,9 @@ pub struct Line {
 
 impl Line {
     /// What a tier of one level shows of the line: mark, stamp and level, as plain numbers.
-    pub fn shown(self) -> (u8, u32, u8)
+    pub fn shown(self) -> (u32, u32, u32)
         ensures { result ≡ shown_of self }
     {
-        (u8::from(self.mark), self.stamp, 1)
+        (u32::from(self.mark), self.stamp, 1)
     }
 }

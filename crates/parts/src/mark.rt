@@ -11,13 +11,13 @@ pub enum Mark {
 
 /// A number that stands for no mark.
 #[derive(Clone, Copy, PartialEq, Eq, Debug)]
-pub struct UnknownMark(pub u8);
+pub struct UnknownMark(pub u32);
 
 /// The number that stands for the mark in what a tier shows.
-impl From<Mark> for u8 {
+impl From<Mark> for u32 {
     ghost from_gives = { λ mark number. number ≡ mark_number mark };
 
-    fn from(mark: Mark) -> u8 {
+    fn from(mark: Mark) -> u32 {
         match mark {
             Mark::Shared => 0,
             Mark::Modified => 1,
@@ -26,12 +26,12 @@ impl From<Mark> for u8 {
 }
 
 /// The mark that a number stands for.
-impl TryFrom<u8> for Mark {
+impl TryFrom<u32> for Mark {
     type Error = UnknownMark;
 
     ghost try_from_gives = { Reads };
 
-    fn try_from(number: u8) -> Result<Mark, UnknownMark> {
+    fn try_from(number: u32) -> Result<Mark, UnknownMark> {
         match number {
             0 => Ok(Mark::Shared),
             1 => Ok(Mark::Modified),

@@ -17,7 +17,7 @@ use tier::Tier;
 #[derive(Clone, Copy, PartialEq, Eq, Debug)]
 pub struct Access {
     /// The cache level that had the block; none for a miss.
-    pub level: Option<u8>,
+    pub level: Option<u32>,
     /// The block that left the caches to make room.
     pub left: Option<u16>,
 }
@@ -32,12 +32,13 @@ pub struct Profile<T> {
 }
 
 // Where the accesses that a level served are counted, or, for none, the misses.
-fn place(level: Option<u8>) -> Option<usize>
+fn place(level: Option<u32>) -> Option<usize>
     ensures { result ≡ place_of level }
 {
     match level {
         None => Some(0),
-        Some(level @ 1..=4) => Some(usize::from(level)),
+        // `as` is proved to lose nothing: `try_from` would bring an error that cannot come
+        Some(level @ 1..=4) => Some(level as usize),
         Some(_) => None,
     }
 }
@@ -103,14 +104,14 @@ impl<T: Tier> Profile<T> {
     }
 
     /// How many levels the caches have.
-    pub fn depth(&self) -> u8
+    pub fn depth(&self) -> u32
         ensures { result ≡ depth_of (T.Tier.meaning self.now.tier) }
     {
         self.tier.depth()
     }
 
     /// How many accesses a level served; of none, how many missed. Level 0 and levels beyond 4 serve no access.
-    pub fn served(&self, level: Option<u8>) -> u64
+    pub fn served(&self, level: Option<u32>) -> u64
         ensures { result ≡ count_of self.now.counts level }
     {
         place(level).map_or(0, |place| self.counts[place])

@@ -30,7 +30,7 @@ pub enum Movement {
     /// Not at all.
     Still,
     /// Brought up from a level of the core's own caches.
-    FromLevel(u8),
+    FromLevel(u32),
     /// To or from main memory.
     Memory,
 }

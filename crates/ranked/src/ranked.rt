@@ -98,11 +98,11 @@ impl<P: Replacement + Drop> Tier for Ranked<P> {
 
     ghost lawful = { λ t. ranked-lawful (P.Replacement.renewing t.policy) t.ways t.held.items t.alone };
 
-    fn depth(&self) -> u8 {
+    fn depth(&self) -> u32 {
         1
     }
 
-    fn look(&self, block: u16) -> Option<(u8, u32, u8)> {
+    fn look(&self, block: u16) -> Option<(u32, u32, u32)> {
         let place = self.position(block)?;
         Some(self.held[place].shown())
     }
@@ -116,7 +116,7 @@ impl<P: Replacement + Drop> Tier for Ranked<P> {
         Ok(out)
     }
 
-    fn take(&mut self, block: u16) -> Option<(u8, u32, u8)> {
+    fn take(&mut self, block: u16) -> Option<(u32, u32, u32)> {
         self.remove(block).map(Line::shown)
     }
 

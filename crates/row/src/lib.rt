@@ -36,7 +36,7 @@ pub trait Row {
         ensures { cores self.new ≡ turned (cores self.old) core state };
 
     /// What a core holds of a block: mark, stamp and level.
-    fn look(&self, core: u16, block: u16) -> Option<(u8, u32, u8)>
+    fn look(&self, core: u16, block: u16) -> Option<(u32, u32, u32)>
         ensures { result ≡ look_of (tier_at (cores self.now) core) block };
 
     /// An operation of a core's tier, and the line that leaves the tier.

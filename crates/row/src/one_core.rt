@@ -82,7 +82,7 @@ impl<T: Tier> Row for Core<T> {
     }
 
     #[tactic(auto, using(crate::proofs::Single::of_one), unfolding(crate::specs::Cores::absent))]
-    fn look(&self, core: u16, block: u16) -> Option<(u8, u32, u8)> {
+    fn look(&self, core: u16, block: u16) -> Option<(u32, u32, u32)> {
         if core == 0 {
             self.tier.look(block)
         } else {

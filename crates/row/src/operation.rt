@@ -6,7 +6,7 @@ use parts::line::Line;
 #[derive(Clone, Copy, PartialEq, Eq, Debug)]
 pub enum Operation {
     /// Brings up a block that is held with this mark, stamp and level.
-    BringUp(u16, (u8, u32, u8)),
+    BringUp(u16, (u32, u32, u32)),
     /// Puts a line.
     Put(Line),
     /// Gives a held block the line's mark and stamp.

@@ -15,12 +15,13 @@ pub trait Tier {
     ghost meaning: { Self → TierMeaning };
 
     /// How many levels there are, 1 to 4.
-    fn depth(&self) -> u8
+    fn depth(&self) -> u32
         ensures { result ≡ depth_of (meaning self.now) };
 
     /// The mark (shared 0, modified 1), the stamp and the level of a held block.
-    // A tuple of plain numbers, by a rule of the project: bringing up takes it apart (docs/DECISIONS.md).
-    fn look(&self, block: u16) -> Option<(u8, u32, u8)>
+    // A tuple of plain numbers, by a rule of the project: bringing up takes it apart (docs/DECISIONS.md). They are of one width,
+    // so no padding is copied with them.
+    fn look(&self, block: u16) -> Option<(u32, u32, u32)>
         ensures { result ≡ look_of (meaning self.now) block };
 
     /// Holds the line's block at level 1. The block that leaves to make room is given out.
@@ -29,7 +30,7 @@ pub trait Tier {
         ensures next { meaning self.new ≡ after (meaning self.old) (put line.block line.mark line.stamp) };
 
     /// Frees a block, and answers as `look` did.
-    fn take(&mut self, block: u16) -> Option<(u8, u32, u8)>
+    fn take(&mut self, block: u16) -> Option<(u32, u32, u32)>
         ensures answer { result ≡ look_of (meaning self.old) block }
         ensures next { meaning self.new ≡ after (meaning self.old) (take block) };
 

@@ -38,7 +38,7 @@ impl<U: Tier, L: Tier> Pile<U, L> {
 }
 
 // What the lower tier shows of a block, seen from above so many levels.
-fn deepened(depth: u8, shown: (u8, u32, u8)) -> (u8, u32, u8)
+fn deepened(depth: u32, shown: (u32, u32, u32)) -> (u32, u32, u32)
     ensures { result ≡ deeper depth shown }
 {
     let (mark, stamp, level) = shown;
@@ -70,11 +70,11 @@ impl<U: Tier, L: Tier> Tier for Pile<U, L> {
 
     ghost lawful = { λ t. pile-lawful _ _ (U.Tier.lawful t.upper) (L.Tier.lawful t.lower) };
 
-    fn depth(&self) -> u8 {
+    fn depth(&self) -> u32 {
         (self.upper.depth() + self.lower.depth()).min(4)
     }
 
-    fn look(&self, block: u16) -> Option<(u8, u32, u8)> {
+    fn look(&self, block: u16) -> Option<(u32, u32, u32)> {
         if let Some(shown) = self.upper.look(block) {
             return Some(shown);
         }
@@ -94,7 +94,7 @@ impl<U: Tier, L: Tier> Tier for Pile<U, L> {
         Ok(out.filter(|out| self.upper.look(out.block).is_none()))
     }
 
-    fn take(&mut self, block: u16) -> Option<(u8, u32, u8)> {
+    fn take(&mut self, block: u16) -> Option<(u32, u32, u32)> {
         let depth = self.upper.depth();
         let above = self.upper.take(block);
         let below = self.lower.take(block);

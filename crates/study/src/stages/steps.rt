@@ -41,7 +41,7 @@ impl<R: Row, M: Memory> Run<R, M> {
     }
 
     // A core reads a block that it holds so.
-    fn read_held(&mut self, core: u16, block: u16, held: (u8, u32, u8)) -> Effect
+    fn read_held(&mut self, core: u16, block: u16, held: (u32, u32, u32)) -> Effect
         ensures { Does R.cores M.meaning self.old self.new (Ok result) (reading (run_of R.cores M.meaning self.old) core block held) }
     {
         let (_, stamp, level) = held;
@@ -57,7 +57,7 @@ impl<R: Row, M: Memory> Run<R, M> {
     }
 
     // A core writes a block that it holds so.
-    fn write_held(&mut self, core: u16, block: u16, held: (u8, u32, u8)) -> Effect
+    fn write_held(&mut self, core: u16, block: u16, held: (u32, u32, u32)) -> Effect
         ensures { Does R.cores M.meaning self.old self.new (Ok result) (writing (run_of R.cores M.meaning self.old) core block held) }
     {
         let (mark, _, level) = held;
@@ -68,7 +68,7 @@ impl<R: Row, M: Memory> Run<R, M> {
             sender: core,
             block,
         };
-        let modified = mark == u8::from(Mark::Modified);
+        let modified = mark == u32::from(Mark::Modified);
         claim(&mut self.row, &mut self.memory, message, modified);
         let line = Line {
             block,
