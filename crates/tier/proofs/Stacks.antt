@@ -4,16 +4,16 @@ use native.Mathlib.Decide.{ℕ_discrete}
 use Rattle.std.specs.Option.{option_map}
 use Rattle.std.proofs.lemmas.Option.{same_Some}
 use Rattle.device.specs.Device.{after, reach, run}
-use Rattle.device.specs.Laws.{seen-reach, reach-more}
+use Rattle.device.specs.Laws.{device-after, reach-more}
 use Rattle.parts.specs.declared.mark.Mark.{Mark}
 use Rattle.parts.specs.declared.line.Line.{Line}
-use Rattle.tier.specs.Meaning.{TierMeaning, TierView, TierCall, put, take, change, touch, clear, Holding, depth_of, look_of, out_of, if_held, bare, Lawful}
-use Rattle.tier.specs.Pile.{Parts, parts, first, pile_look, sink, to_shown, pile_step, pile}
+use Rattle.tier.specs.Meaning.{TierMeaning, TierCall, put, take, change, touch, clear, Holding, depth_of, look_of, out_of, if_held, bare, Lawful}
+use Rattle.tier.specs.Pile.{Parts, parts, first, pile_look, sink, pile_view, to_shown, pile_step, pile_depth, pile}
 use Rattle.tier.specs.Stacked.{Stacked, StaysStacked}
 use Rattle.tier.specs.Options.{never, is_some_lem, some_of, not_some}
 use Rattle.tier.specs.Holdings.{bare-none, bare-held}
 use Rattle.tier.proofs.Holds.{SameBlocks, change-same, touch-same}
-use Rattle.tier.specs.PileLaws.{block, both_none, Sound, keeps, fu, upper-same, lower-same, away-held}
+use Rattle.tier.specs.PileLaws.{block, both_none, stays, at, Sound, keeps, fu, upper-same, lower-same, away-held}
 
 -- no block is in both parts
 abbrev Apart : Parts → Type 0
@@ -147,15 +147,23 @@ stacked p u l e apart = record {
   apart = λ n h q. apart n (is_some_lem (look_of u n) h q);
 }
 
+-- after some calls a pile is the one of its parts after them
+reached : (p : Parts) (cs : List TierCall) → reach (at p) cs ≡ at (run pile_step p cs)
+reached p [] = refl
+reached p (c ∷ cs) = ap (λ x. reach x cs) (sym (device-after pile_depth pile_view pile_step stays p c)) ∙ reached (pile_step p c) cs
+
 apart-stays : (u l : TierMeaning) → Lawful u → Lawful l → Apart (parts u l) → StaysStacked (pile u l) u l
 apart-stays u l hu hl apart cs =
     let end = good-run u l cs (parts u l) (record { sound = (hu, hl); apart = apart; made = record { us = []; ls = []; upper = refl; lower = refl } }) in
     let q = run pile_step (parts u l) cs in
-    let p = reach (pile u l) cs in
-    let P : Parts → Type 0 = λ x. Stacked p x.upper x.lower in
     let is : q ≡ parts (reach u end.made.us) (reach l end.made.ls) = ap (λ x. parts x q.lower) end.made.upper ∙ ap (parts (reach u end.made.us)) end.made.lower in
-    let shows : (n : ℕ) → look_of p n ≡ pile_look q n = λ n. ap (λ (v : TierView). v.look n) (seen-reach (pile u l) cs) in
-    (end.made.us, (end.made.ls, subst P is (stacked p q.upper q.lower shows end.apart)))
+    let same : reach (pile u l) cs ≡ pile (reach u end.made.us) (reach l end.made.ls) = reached (parts u l) cs ∙ ap at is in
+    record {
+      above = end.made.us;
+      below = end.made.ls;
+      made = same;
+      stacked = stacked _ _ _ (λ n. ap (λ x. look_of x n) same) (subst Apart is end.apart);
+    }
 
 -- so it is with two tiers that were cleared
 pub cleared_stacked : (u l p : TierMeaning) → Lawful u → Lawful l → p ≡ pile (after u clear) (after l clear) → StaysStacked p (after u clear) (after l clear)

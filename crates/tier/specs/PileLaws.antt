@@ -63,14 +63,14 @@ depth_sink : (l : TierMeaning) (g : Option Line) → depth_of (sink l g) ≡ dep
 depth_sink l None = refl
 depth_sink l (Some g) = refl
 
-stays : (p : Parts) (c : TierCall) → pile_depth (pile_step p c) ≡ pile_depth p
+pub stays : (p : Parts) (c : TierCall) → pile_depth (pile_step p c) ≡ pile_depth p
 stays p (put n k s) = depth_held (pile_look p n) p p _ refl (ap (λ i. min 4 (depth_of p.upper + i)) (depth_sink p.lower (out_of p.upper n k s)))
 stays p (take n) = refl
 stays p (change n k s) = depth_held (look_of p.upper n) p _ _ refl refl
 stays p (touch n) = depth_held (look_of p.upper n) p _ _ refl refl
 stays p clear = refl
 
-abbrev at : Parts → TierMeaning
+abbrev pub at : Parts → TierMeaning
 at p = device pile_depth pile_view pile_step p
 
 -- a call that alters no part alters nothing

@@ -2,6 +2,7 @@
 use Rattle.std.specs.Prelude.{◌≡◌, ℕ, ◌+◌, min, List, Some, None}
 use Rattle.device.specs.Device.{reach}
 use Rattle.tier.specs.Meaning.{TierMeaning, TierCall, Holding, depth_of, look_of}
+use Rattle.tier.specs.Pile.{pile}
 
 -- p holds what u holds and, of the rest, what l holds, deeper by u's depth; no block is in both
 pub record Stacked (p u l : TierMeaning) : Type 0 where
@@ -10,6 +11,13 @@ pub record Stacked (p u l : TierMeaning) : Type 0 where
   pub neither : (n : ℕ) → look_of u n ≡ None → look_of l n ≡ None → look_of p n ≡ None
   pub apart : (n : ℕ) (h : Holding) → look_of u n ≡ Some h → look_of l n ≡ None
 
--- after any list of calls the pile is stacked of its two tiers, each as some calls left it
+-- the pile p is made of the tiers u and l, each as some calls left it, and is stacked of them
+pub record MadeOf (p u l : TierMeaning) : Type 0 where
+  pub above : List TierCall
+  pub below : List TierCall
+  pub made : p ≡ pile (reach u above) (reach l below)
+  pub stacked : Stacked p (reach u above) (reach l below)
+
+-- so it is after any list of calls
 abbrev pub StaysStacked : TierMeaning → TierMeaning → TierMeaning → Type 0
-StaysStacked p u l = (cs : List TierCall) → (us : List TierCall) × ((ls : List TierCall) × Stacked (reach p cs) (reach u us) (reach l ls))
+StaysStacked p u l = (cs : List TierCall) → MadeOf (reach p cs) u l
