@@ -1,13 +1,14 @@
 -- A study that came to an end leaves the lent table as its memory is.
-use Rattle.std.proofs.Common.{◌≡◌, ℕ, Bool, true, false, cond, eqb, ltb, List, [], ◌∷◌, map, Ok, Err, Result, sym, ap, ◌∙◌, arith}
+use Rattle.std.proofs.Common.{◌≡◌, ℕ, nat_lt, ◌||◌, Bool, true, false, cond, eqb, ltb, List, [], ◌∷◌, map, Ok, Err, Result, sym, ap, ◌∙◌, arith}
 use Rattle.memory.specs.declared.cell.Cell.{Cell}
 use Rattle.memory.specs.Meaning.{MemoryMeaning, Lent, size_of, lent_of}
 use Rattle.memory.specs.Flat.{flat}
 use Rattle.memory.specs.FlatLaws.{flat-lawful}
 use Rattle.protocol.specs.declared.call.Call.{Call}
 use Rattle.protocol.specs.declared.refusal.Refusal.{Refusal}
-use Rattle.protocol.specs.declared.refusal.Refusal.TheVariants.{TooManyCores, NoBlocks}
+use Rattle.protocol.specs.declared.refusal.Refusal.TheVariants.{TooManyCores, NoBlocks, WeightTooHigh}
 use Rattle.protocol.specs.declared.weights.Prices.{Prices}
+use Rattle.protocol.specs.Prices.{weighing}
 use Rattle.row.specs.Cores.{CoreMeaning, count_of}
 use Rattle.study.specs.Run.{RunMeaning}
 use Rattle.study.specs.Opening.{opened, opening}
@@ -24,6 +25,17 @@ no_end x e p = let z : ◌≡◌ {A = ℕ} 0 1 = cc in omega arith
 pub weighed-started : (W : Result Prices Refusal) (w w' : Prices) (cs : List CoreMeaning) (m : MemoryMeaning) → Ok tt ≡ answer_of W → w ≡ weighed_as W w' → started W cs m ≡ opening cs m w
 weighed-started (Ok v) w w' cs m e p = ap (opening cs m) (sym p)
 weighed-started (Err x) w w' cs m e p = let z : ◌≡◌ {A = ℕ} 0 1 = cc in absurd (omega arith)
+
+-- its weights are those that were asked for
+pub weighed-at : (w v v' : Prices) → Ok tt ≡ answer_of (weighing w) → v ≡ weighed_as (weighing w) v' → v ≡ w
+weighed-at w v v' = go (nat_lt 1000 w.w1 || (nat_lt 1000 w.w2 || (nat_lt 1000 w.w3 || (nat_lt 1000 w.w4 || nat_lt 1000 w.wm))))
+  where
+    high : Bool → Result Prices Refusal
+    high b = cond b (Err WeightTooHigh) (Ok w)
+
+    go : (b : Bool) → Ok tt ≡ answer_of (high b) → v ≡ weighed_as (high b) v' → v ≡ w
+    go true e p = let z : ◌≡◌ {A = ℕ} 0 1 = cc in absurd (omega arith)
+    go false e p = p
 
 names : MemoryMeaning → List ℕ
 names m = map (λ (t : Lent). t.name) (lent_of m)

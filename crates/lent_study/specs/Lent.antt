@@ -1,11 +1,12 @@
 -- A study over a table that the caller lends.
-use Rattle.std.specs.Prelude.{◌≡◌, ℕ, List, [], ◌∷◌, Ok, Err, Result}
+use Rattle.std.specs.Prelude.{◌≡◌, ℕ, OnOk, List, [], ◌∷◌, Ok, Err, Result}
 use Rattle.memory.specs.declared.cell.Cell.{Cell}
 use Rattle.memory.specs.Meaning.{MemoryMeaning, Lent, lent_of}
 use Rattle.memory.specs.Flat.{flat}
 use Rattle.protocol.specs.declared.call.Call.{Call}
 use Rattle.protocol.specs.declared.refusal.Refusal.{Refusal}
 use Rattle.protocol.specs.declared.weights.Prices.{Prices}
+use Rattle.protocol.specs.Prices.{weighing}
 use Rattle.row.specs.Cores.{CoreMeaning}
 use Rattle.study.specs.declared.quote.Quote.{Quote}
 use Rattle.study.specs.declared.turn.Turn.{Turn}
@@ -13,6 +14,7 @@ use Rattle.study.specs.Run.{RunMeaning}
 use Rattle.study.specs.Opening.{opening}
 use Rattle.study.specs.Play.{played, calls_of}
 use Rattle.study.specs.Settling.{Ending, simulated, recorded}
+use Rattle.study.specs.Warrant.{Warranted}
 
 -- a draft is weighed and opened
 abbrev pub started : Result Prices Refusal → List CoreMeaning → MemoryMeaning → Result RunMeaning Refusal
@@ -32,7 +34,9 @@ abbrev pub lent : ℕ → List Cell → Lent
 lent a t = record { name = a; cells = t }
 
 -- cells t are lent under the name a; t' come back
-pub record LentStudy (w : Result Prices Refusal) (cs : List CoreMeaning) (a : ℕ) (t t' : List Cell) (turns turns' : List Turn) (answer : Result Quote Refusal) : Type 0 where
-  pub table : lent_of (memory_after (started w cs (flat a t)) (flat a t) (calls_of turns)) ≡ lent a t' ∷ []
-  pub schedule : turns' ≡ recorded (started w cs (flat a t)) turns
-  pub quote : answer ≡ quote_of (simulated (started w cs (flat a t)) (calls_of turns))
+pub record LentStudy (w : Prices) (cs : List CoreMeaning) (a : ℕ) (t t' : List Cell) (turns turns' : List Turn) (answer : Result Quote Refusal) : Type 0 where
+  pub table : lent_of (memory_after (started (weighing w) cs (flat a t)) (flat a t) (calls_of turns)) ≡ lent a t' ∷ []
+  pub schedule : turns' ≡ recorded (started (weighing w) cs (flat a t)) turns
+  pub quote : answer ≡ quote_of (simulated (started (weighing w) cs (flat a t)) (calls_of turns))
+  -- a study that is not refused is warranted
+  pub warrant : OnOk answer (Warranted cs (flat a t) w)

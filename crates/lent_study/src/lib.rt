@@ -2,7 +2,6 @@
 #![tactic(auto)]
 
 ghost use Rattle.std.specs.Prelude.{◌≡◌, ℕ};
-ghost use Rattle.protocol.specs.Prices.{weighing};
 ghost use Rattle.lent_study.specs.Lent.{LentStudy};
 
 use memory::cell::Cell;
@@ -23,7 +22,7 @@ fn lend<'a, R: Row + Drop>(
     schedule: &mut [Turn],
 ) -> (&'a mut [Cell], Result<Quote, Refusal>)
     ensures named { result.0.ghost_name ≡ table.entry.ghost_name }
-    ensures study { LentStudy (weighing prices) (R.Row.cores row) table.entry.ghost_name table.old result.0.now schedule.old schedule.new result.1 }
+    ensures study { LentStudy prices (R.Row.cores row) table.entry.ghost_name table.old result.0.now schedule.old schedule.new result.1 }
 {
     let mut draft = Draft::new(row, Flat::over(table));
     if let Err(refusal) = draft.weigh(prices) {
@@ -40,14 +39,14 @@ fn lend<'a, R: Row + Drop>(
 }
 
 /// Weighs, opens, plays and settles a study whose memory is the caller's table. What the table then holds follows from the
-/// definitions, whatever it held; a refused study leaves it as it was.
+/// definitions, whatever it held; a refused study leaves it as it was, and one that is not refused is warranted.
 pub fn simulate_in_table<R: Row + Drop>(
     row: R,
     table: &mut [Cell],
     prices: Prices,
     schedule: &mut [Turn],
 ) -> Result<Quote, Refusal>
-    ensures { (a : ℕ) × LentStudy (weighing prices) (R.Row.cores row) a table.old table.new schedule.old schedule.new result }
+    ensures { (a : ℕ) × LentStudy prices (R.Row.cores row) a table.old table.new schedule.old schedule.new result }
 {
     let (_, quote) = lend(row, table, prices, schedule);
     quote

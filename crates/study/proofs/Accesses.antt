@@ -1,5 +1,5 @@
 -- What every call keeps, and that accesses keep it: waiting, reading and writing.
-use Rattle.std.proofs.Common.{◌≡◌, ℕ, ◌+◌, ◌<◌, true, false, ◌≢◌, List, length, Some, None, Option, sym, refl, ap, ◌∙◌, subst, add-zero}
+use Rattle.std.proofs.Common.{◌≡◌, ℕ, ◌+◌, ◌<◌, Bool, true, false, cond, ◌≢◌, List, length, Some, None, Option, sym, refl, ap, ◌∙◌, subst, add-zero}
 use mathlib.Core.Bool.{false≢true}
 use native.Mathlib.Decide.{ℕ_discrete}
 use Rattle.std.proofs.lemmas.Bool.{eqb-true}
@@ -11,7 +11,9 @@ use Rattle.protocol.specs.declared.access.Access.{Access}
 use Rattle.protocol.specs.declared.access.Access.TheVariants.{Read as ToRead, Write as ToWrite}
 use Rattle.protocol.specs.declared.access.CoreState.{CoreState}
 use Rattle.protocol.specs.declared.access.CoreState.TheVariants.{Ready, Waiting, Due}
+use Rattle.protocol.specs.declared.answer.Word.TheVariants.{Wrote}
 use Rattle.protocol.specs.declared.call.Call.{Call}
+use Rattle.protocol.specs.declared.call.Call.TheVariants.{Resume}
 use Rattle.protocol.specs.Accesses.{block_of}
 use Rattle.protocol.specs.Answers.{word_of}
 use Rattle.protocol.specs.Calls.{core_of}
@@ -20,7 +22,7 @@ use Rattle.row.specs.declared.operation.Operation.TheVariants.{BringUp, Change a
 use Rattle.row.specs.Cores.{CoreMeaning, core, core_at, tier_at}
 use Rattle.study.specs.Run.{RunMeaning, Outcome}
 use Rattle.study.specs.Step.{valid, left, waiting, brought_up, reading, alone_cores, alone_memory, is_modified, writing, access_by, access}
-use Rattle.study.specs.Book.{Book, asking, noted, Honest}
+use Rattle.study.specs.Book.{Book, asking, heard, entered, may_write, noted, Honest}
 use Rattle.study.specs.Coherence.{copy_of}
 use Rattle.study.proofs.Block.{Owner, owner, stamped, kept}
 use Rattle.study.proofs.Tiers.{held, lawful-after, Raised, raises, change-holds, change-others}
@@ -68,6 +70,15 @@ stands_replaced z z' asked cs cs' c x R e f w d = rw e (elim (ℕ_discrete d c) 
   | yes q ↦ subst (λ i. Stands z (asked i) (core_at cs' i)) (sym q) (subst (Stands z (asked c)) (sym R.here) w)
   | no ne ↦ subst (Stands z (asked d)) (sym (R.there d ne)) (f d ne)
 ])
+
+-- the call k may make the access
+abbrev pub Makes : Call → Access → Type 0
+Makes k (ToRead n) = Unit {0}
+Makes k (ToWrite n) = may_write k ≡ true
+
+pub resume_makes : (c : ℕ) (a : Access) → Makes (Resume c) a
+resume_makes c (ToRead n) = tt
+resume_makes c (ToWrite n) = refl
 
 -- an access by the core of the call k
 module _ (r : RunMeaning) (b : Book) (k : Call) (S : Sound r.cores r.memory b.number) (lt : core_of k < length r.cores)
@@ -164,28 +175,35 @@ module _ (r : RunMeaning) (b : Book) (k : Call) (S : Sound r.cores r.memory b.nu
     abbrev w : ℕ
     w = r.tally.writes + 1
 
-    writing-good : Good b k (writing r c n h)
-    writing-good =
+    -- the book that credits the write
+    abbrev credited : Book
+    credited = entered c (heard b k Wrote)
+
+    written : Inv (writing r c n h).run credited
+    written =
         let replaced₂ = operated_on cs₂ c (ToChange (line n Modified w)) (core t₁ Ready) (alone₂.here ∙ replaced₁.here)
         (rw alone₂.size sound₁.short) (rw alone₂.size lt₁) in
         record {
-          inv = record {
-            sound = rw (q, ← count) (own-sound cs₁ m₁ b.number sound₁ cs₂ _ _ c n w _ alone₂ replaced₂
-                (lawful-after t₁ (change n Modified w) up.lawful) kept₂ within₁
-                (alone-stale m₁ sound₁.memory (is_modified h) c n cs₁ within₁ (λ z. (owning z).behind))
-                (change-holds t₁ up.lawful n (h.0, h.1) up.holds Modified w)
-                (λ j ne. change-others t₁ up.lawful n Modified w j ne ∙ sym (copy_here cs cs₁ c _ replaced₁ j)));
-            states = stands_replaced (size_of m) _ (asking k b.asked) cs₂ _ c _ replaced₂ (kept₂.size ∙ size₁)
-                (λ d ne. stands-dropped _ _ n _ _ (alone₂.there d ne) (subst (Stands (size_of m) (asking k b.asked d)) (sym (replaced₁.there d ne)) (states d ne))) tt;
-            count = ap (λ i. i + 1) count;
-          };
-          honest = silent;
+          sound = rw (q, ← count) (own-sound cs₁ m₁ b.number sound₁ cs₂ _ _ c n w _ alone₂ replaced₂
+              (lawful-after t₁ (change n Modified w) up.lawful) kept₂ within₁
+              (alone-stale m₁ sound₁.memory (is_modified h) c n cs₁ within₁ (λ z. (owning z).behind))
+              (change-holds t₁ up.lawful n (h.0, h.1) up.holds Modified w)
+              (λ j ne. change-others t₁ up.lawful n Modified w j ne ∙ sym (copy_here cs cs₁ c _ replaced₁ j)));
+          states = stands_replaced (size_of m) _ (asking k b.asked) cs₂ _ c _ replaced₂ (kept₂.size ∙ size₁)
+              (λ d ne. stands-dropped _ _ n _ _ (alone₂.there d ne) (subst (Stands (size_of m) (asking k b.asked d)) (sym (replaced₁.there d ne)) (states d ne))) tt;
+          count = ap (λ i. i + 1) count;
         }
 
-  pub access-good : (a : Access) → block_of a < size_of m → asking k b.asked c ≡ block_of a → Good b k (access r c a)
-  access-good a h q = go a h q (look_of t (block_of a)) refl
+    writing-good : may_write k ≡ true → Good b k (writing r c n h)
+    writing-good may =
+        let Kept-by : Bool → Type 0 = λ x. Inv (writing r c n h).run (cond x credited (heard b k Wrote)) in
+        record { inv = subst Kept-by (sym may) written; honest = silent }
+
+  pub access-good : (a : Access) → Makes k a → block_of a < size_of m → asking k b.asked c ≡ block_of a → Good b k (access r c a)
+  access-good a w h q = go a w h q (look_of t (block_of a)) refl
     where
-      go : (a : Access) → block_of a < size_of m → asking k b.asked c ≡ block_of a → (o : Option Holding) → look_of t (block_of a) ≡ o → Good b k (access_by r c a o)
-      go a h q None e = waiting-good a h q e
-      go (ToRead n) h q (Some x) e = reading-good n x q e
-      go (ToWrite n) h q (Some x) e = writing-good n x q e
+      go : (a : Access) → Makes k a → block_of a < size_of m → asking k b.asked c ≡ block_of a → (o : Option Holding) → look_of t (block_of a) ≡ o
+          → Good b k (access_by r c a o)
+      go a w h q None e = waiting-good a h q e
+      go (ToRead n) w h q (Some x) e = reading-good n x q e
+      go (ToWrite n) w h q (Some x) e = writing-good n x q e w

@@ -1,5 +1,6 @@
 -- The counts of a run are those of its answers.
 use Rattle.std.proofs.Common.{◌≡◌, ℕ, ◌+◌, ◌*◌, ◌<◌, ◌≤◌, Bool, true, false, cond, eqb, List, [], ◌∷◌, Some, Ok, sym, refl, ap, ◌∙◌, subst, add-zero, arith}
+use Rattle.std.proofs.lemmas.Bool.{eqb-true}
 use Rattle.memory.specs.Meaning.{MemoryMeaning}
 use Rattle.protocol.specs.declared.answer.Answer.{Answer}
 use Rattle.protocol.specs.declared.answer.Answer.TheVariants.{Waits, Brought, Read, Wrote, Flushed, Committed}
@@ -10,14 +11,14 @@ use Rattle.protocol.specs.declared.weights.Movement.{Movement}
 use Rattle.protocol.specs.declared.weights.Movement.TheVariants.{Still, FromLevel, Memory}
 use Rattle.protocol.specs.Answers.{word_of}
 use Rattle.protocol.specs.declared.weights.Prices.{Prices}
-use Rattle.protocol.specs.Prices.{price}
+use Rattle.protocol.specs.Prices.{level_price, price}
 use Rattle.row.specs.Cores.{CoreMeaning}
 use Rattle.study.specs.Run.{RunMeaning, Outcome, writes_of, accesses_of}
 use Rattle.study.specs.Step.{charged, accepted, refused, step}
 use Rattle.study.specs.Opening.{opened}
 use Rattle.study.specs.Play.{played, history}
 use Rattle.study.specs.Words.{is_accepted, is_wrote, is_access, one_if, counted}
-use Rattle.study.specs.Report.{charged_for, pushed_out, ServedFrom, Costs, AddUpFrom, Reported}
+use Rattle.study.specs.Report.{charged_for, if_left, ServedFrom, Costs, AddUp, Reported}
 use Rattle.protocol.specs.Prices.{Affordable}
 use Rattle.study.proofs.Outcomes.{Served, Moved, performed_by, of_step}
 
@@ -50,15 +51,25 @@ record Fair (r : RunMeaning) (o : Outcome) : Type 0 where
   same : is_accepted (word_of o.answer) ≡ false → o.run ≡ r
 
 -- what a call is charged for its two movements is what its answer costs
-leaver_cost : (w : Prices) (x : Bool) → price w (cond x Memory Still) ≡ pushed_out w x
+leaver_cost : (w : Prices) (x : Bool) → price w (cond x Memory Still) ≡ if_left w x
 leaver_cost w true = refl
 leaver_cost w false = refl
 
 sum_of : (w : Prices) (a b a' b' : Movement) {k : ℕ} → a ≡ a' → b ≡ b' → price w b' ≡ k → charged w a b ≡ price w a' + k
 sum_of w a b a' b' p q r = let p' = ap (price w) p in let q' = ap (price w) q in omega (arith, p', q', r)
 
-served_cost : (w : Prices) (a b : Movement) → Served a b → ServedFrom w (charged w a b)
-served_cost w a b (l, x, first, p, q) = (l, x, first, sum_of w a b (FromLevel l) (cond x Memory Still) p q (leaver_cost w x))
+-- what is deeper than level 3 costs what level 4 costs
+served_cost : (w : Prices) (a b : Movement) → Served a b → (l : ℕ) × ServedFrom w (charged w a b) l
+served_cost w a b (l, x, first, p, q) = go (eqb l 1) (eqb l 2) (eqb l 3) refl refl refl
+  where
+    sum : charged w a b ≡ level_price w l + if_left w x
+    sum = sum_of w a b (FromLevel l) (cond x Memory Still) p q (leaver_cost w x)
+
+    go : (i j k : Bool) → eqb l 1 ≡ i → eqb l 2 ≡ j → eqb l 3 ≡ k → (l : ℕ) × ServedFrom w (charged w a b) l
+    go true j k e f g = (1, record { low = omega arith; high = omega arith; left = x; first = λ z. first (eqb-true l 1 e); cost = sum ∙ (rw e refl) })
+    go false true k e f g = (2, record { low = omega arith; high = omega arith; left = x; first = λ z. absurd (omega arith); cost = sum ∙ (rw (e, f) refl) })
+    go false false true e f g = (3, record { low = omega arith; high = omega arith; left = x; first = λ z. absurd (omega arith); cost = sum ∙ (rw (e, f, g) refl) })
+    go false false false e f g = (4, record { low = omega arith; high = omega arith; left = x; first = λ z. absurd (omega arith); cost = sum ∙ (rw (e, f, g) refl) })
 
 moved_cost : (w : Prices) (a b : Movement) (x : Answer) → Moved x a b → Costs w (Ok x) (charged w a b)
 moved_cost w a b (Waits n) (p, q) = sum_of w a b Still Still p q refl
@@ -150,13 +161,13 @@ counts (k ∷ ks) r =
     }
 
 -- the totals that are noted add up
-adds_up : (ks : List Call) (r : RunMeaning) → AddUpFrom r.prices r.tally.total (history r ks)
-unfolding history AddUpFrom
-adds_up [] r = tt
+adds_up : (ks : List Call) (r : RunMeaning) → AddUp r.prices r.tally.total (history r ks) (played r ks).tally.total
+unfolding history played AddUp
+adds_up [] r = refl
 adds_up (k ∷ ks) r =
     let here = fair-step r k in
     let next = (step r k).run in
-    ((step r k).charge, here.cost, here.total, subst (λ w. AddUpFrom w next.tally.total (history next ks)) here.prices (adds_up ks next))
+    ((step r k).charge, here.cost, here.total, subst (λ w. AddUp w next.tally.total (history next ks) (played next ks).tally.total) here.prices (adds_up ks next))
 
 -- at most one
 one-most : (b : Bool) → cond b 1 0 ≤ 1

@@ -34,7 +34,7 @@ use Rattle.study.proofs.Tiers.{held, lawful-after, put_holds, put-stays, put-pas
 use Rattle.study.proofs.Memories.{Kept, kept-after, valid-named, left-lawful, left-size, left-others, left-change}
 use Rattle.study.proofs.Rows.{operated_on, turned-done}
 use Rattle.study.proofs.Sound.{Sound, but_same, but-other, inside, change-sound}
-use Rattle.study.proofs.Accesses.{Stands, Inv, Good, silent, stands-less, stands_replaced, access-good}
+use Rattle.study.proofs.Accesses.{Stands, Inv, Good, silent, stands-less, stands_replaced, Makes, resume_makes, access-good}
 
 -- a stamp that is owed is that of a modified copy
 owed_held : (o : Option Holding) (s : ℕ) → modified_stamp o ≡ Some s → bare o ≡ Some (modified s)
@@ -63,15 +63,15 @@ module _ (r : RunMeaning) (b : Book) (I : Inv r b) where
   provided-good k false e o f = refused-good k e
 
   -- an access that the call names, and one that was due
-  named-good : (k : Call) (a : Access) → asking k b.asked ≡ but b.asked (core_of k) (block_of a) → core_of k < length cs → block_of a < size_of m
+  named-good : (k : Call) (a : Access) → Makes k a → asking k b.asked ≡ but b.asked (core_of k) (block_of a) → core_of k < length cs → block_of a < size_of m
       → Good b k (access r (core_of k) a)
-  named-good k a q lt h =
-      access-good r b k S lt (λ d ne. rw (q, but-other b.asked (core_of k) (block_of a) d ne) (I.states d)) I.count a h (rw (q, but_same b.asked (core_of k) (block_of a)))
+  named-good k a w q lt h =
+      access-good r b k S lt (λ d ne. rw (q, but-other b.asked (core_of k) (block_of a) d ne) (I.states d)) I.count a w h (rw (q, but_same b.asked (core_of k) (block_of a)))
 
   resume_good : (c : ℕ) (a : Access) → c < length cs → state_at cs c ≡ Due a → Good b (Resume c) (access r c a)
   resume_good c a lt e =
       let W : Stands (size_of m) (b.asked c) (core (tier_at cs c) (Due a)) = rw e at (I.states c) in
-      access-good r b (Resume c) S lt (λ d ne. I.states d) I.count a W.0 W.1
+      access-good r b (Resume c) S lt (λ d ne. I.states d) I.count a (resume_makes c a) W.0 W.1
 
   -- core c
   module _ (c : ℕ) (lt : c < length cs) where
@@ -163,10 +163,10 @@ module _ (r : RunMeaning) (b : Book) (I : Inv r b) where
         go (Some s) e = record { inv = cleaning-keeps n s (owed_held _ s e) (Committed true); honest = silent }
 
   act-good : (k : Call) → core_of k < length cs → fits_in (size_of m) k ≡ true → (s : CoreState) → state_at cs (core_of k) ≡ s → Good b k (act r k s)
-  act-good (Read c n) lt h Ready e = named-good (Read c n) (ToRead n) refl lt (ltb-true n (size_of m) h)
+  act-good (Read c n) lt h Ready e = named-good (Read c n) (ToRead n) tt refl lt (ltb-true n (size_of m) h)
   act-good (Read c n) lt h (Waiting a) e = refused-good (Read c n) WrongState
   act-good (Read c n) lt h (Due a) e = refused-good (Read c n) WrongState
-  act-good (Write c n) lt h Ready e = named-good (Write c n) (ToWrite n) refl lt (ltb-true n (size_of m) h)
+  act-good (Write c n) lt h Ready e = named-good (Write c n) (ToWrite n) refl refl lt (ltb-true n (size_of m) h)
   act-good (Write c n) lt h (Waiting a) e = refused-good (Write c n) WrongState
   act-good (Write c n) lt h (Due a) e = refused-good (Write c n) WrongState
   act-good (Fetch c) lt h Ready e = refused-good (Fetch c) WrongState

@@ -1,8 +1,6 @@
 -- After any calls, cores and memory are coherent and every read was honest.
 use Rattle.std.proofs.Common.{◌≡◌, ℕ, zero, suc, ◌<◌, ◌≤◌, List, [], ◌∷◌, length, get_or, Some, None, Option, sym, refl, ap, ◌∙◌, subst, le_of_suc-le-suc, not-suc-le-zero, arith}
 use native.Mathlib.Decide.{ℕ_discrete}
-use Rattle.parts.specs.declared.mark.Mark.{Mark}
-use Rattle.parts.specs.Marks.{mark_number}
 use Rattle.tier.specs.Meaning.{clear, bare, Lawful as LawfulTier}
 use Rattle.tier.specs.Options.{none-some}
 use Rattle.memory.specs.Meaning.{MemoryMeaning, store, size_of, Lawful as LawfulMemory}
@@ -27,8 +25,8 @@ use Rattle.study.proofs.Steps.{step-good}
 
 -- a block that no core owns is clean
 unowned : (k : ℕ) (h : ℕ → Option Copy) (v : Option ℕ) → Consistent k h v → ((c s : ℕ) → h c ≡ Some (modified s) → ⊥)
-    → (i : ℕ) × (v ≡ Some i) × ((c s : ℕ) (j : Mark) → h c ≡ Some (mark_number j, s) → s ≡ i)
-unowned k h v (clean p q) f = (k, p, λ c s j e. stamped k h v c (mark_number j, s) e (clean p q))
+    → (i : ℕ) × (v ≡ Some i) × ((c s : ℕ) → (j : ℕ) × (h c ≡ Some (j, s)) → s ≡ i)
+unowned k h v (clean p q) f = (k, p, λ c s e. stamped k h v c (e.0, s) e.1 (clean p q))
 unowned k h v (owned o p q z) f = absurd (f o k p)
 
 -- sound cores and memory are coherent
@@ -37,7 +35,7 @@ coherent cs m num S = record {
   alone = λ n c d s e ne. (owner (num n) _ _ c s e (S.blocks n (inside cs m num S c n _ e))).alone d ne;
   behind = λ n c s e. (owner (num n) _ _ c s e (S.blocks n (inside cs m num S c n _ e))).behind;
   agreed = λ n h f. unowned (num n) _ _ (S.blocks n h) f;
-  inside = λ n c s k e. inside cs m num S c n _ e;
+  inside = λ n c s e. inside cs m num S c n _ e.1;
 }
 
 -- a memory whose blocks below k have the stamp 0

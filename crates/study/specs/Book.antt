@@ -1,5 +1,5 @@
 -- The book: what is known of each block from the calls and the words of their answers alone.
-use Rattle.std.specs.Prelude.{◌≡◌, ℕ, ◌+◌, true, cond, List, [], ◌∷◌, Some, None, Option, Result, ◌==◌}
+use Rattle.std.specs.Prelude.{◌≡◌, ℕ, ◌+◌, Bool, true, false, cond, ◌&&◌, List, [], ◌∷◌, Some, None, Option, Result, ◌==◌}
 use Rattle.protocol.specs.declared.answer.Answer.{Answer}
 use Rattle.protocol.specs.declared.answer.Word.{Word}
 use Rattle.protocol.specs.declared.call.Call.{Call}
@@ -40,9 +40,18 @@ heard b k w = record { count = b.count; number = b.number; asked = cond (is_acce
 abbrev pub entered : ℕ → Book → Book
 entered c b = record { count = b.count + 1; number = but b.number (b.asked c) (b.count + 1); asked = b.asked }
 
+-- the word wrote is credited to a write or a resume
+abbrev pub may_write : Call → Bool
+may_write (Read c n) = false
+may_write (Write c n) = true
+may_write (Fetch c) = false
+may_write (Resume c) = true
+may_write (Flush c n) = false
+may_write (Commit c n) = false
+
 -- the book after a call and the word of its answer
 abbrev pub noted : Book → Call → Word → Book
-noted b k w = cond (is_wrote w) (entered (core_of k) (heard b k w)) (heard b k w)
+noted b k w = cond (is_wrote w && may_write k) (entered (core_of k) (heard b k w)) (heard b k w)
 
 -- an answer to core c that says read shows the number that the book has for the core's block
 abbrev pub Honest : Book → ℕ → Result Answer Refusal → Type 0

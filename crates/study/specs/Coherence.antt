@@ -16,6 +16,10 @@ copy_of cs c n = bare (look_of (tier_at cs c) n)
 abbrev pub Holds : List CoreMeaning → ℕ → ℕ → Mark → ℕ → Type 0
 Holds cs c n k s = copy_of cs c n ≡ Some (mark_number k, s)
 
+-- core c holds block n with this stamp, by whatever mark
+abbrev pub Has : List CoreMeaning → ℕ → ℕ → ℕ → Type 0
+Has cs c n s = (k : ℕ) × (copy_of cs c n ≡ Some (k, s))
+
 -- core c does not hold block n
 abbrev pub Lacks : List CoreMeaning → ℕ → ℕ → Type 0
 Lacks cs c n = copy_of cs c n ≡ None
@@ -27,6 +31,6 @@ pub record Coherent (cs : List CoreMeaning) (m : MemoryMeaning) : Type 0 where
   pub behind : (n c s : ℕ) → Holds cs c n Modified s → valid m n ≡ None
   -- any other block of the memory is valid there, and every core that holds it has it with the memory's stamp
   pub agreed : (n : ℕ) → n < size_of m → ((c s : ℕ) → Holds cs c n Modified s → ⊥)
-      → (i : ℕ) × (valid m n ≡ Some i) × ((c s : ℕ) (k : Mark) → Holds cs c n k s → s ≡ i)
+      → (i : ℕ) × (valid m n ≡ Some i) × ((c s : ℕ) → Has cs c n s → s ≡ i)
   -- no core holds a block that the memory lacks
-  pub inside : (n c s : ℕ) (k : Mark) → Holds cs c n k s → n < size_of m
+  pub inside : (n c s : ℕ) → Has cs c n s → n < size_of m

@@ -11,3 +11,4 @@ pub mod Warrant
 pub mod Settling
 pub mod Stages
 pub mod Effects
+pub mod Quotes

@@ -19,32 +19,36 @@ unfoldable pub charged_for : RunMeaning → List Call → ℕ
 charged_for r [] = 0
 charged_for r (k ∷ ks) = (step r k).charge + charged_for (step r k).run ks
 
--- what it costs, at the weights w, where a modified line leaves the caches
-abbrev pub pushed_out : Prices → Bool → ℕ
-pushed_out w b = cond b w.wm 0
+-- what it costs more, at the weights w, where a modified line leaves the caches for the block
+abbrev pub if_left : Prices → Bool → ℕ
+if_left w b = cond b w.wm 0
 
--- an access of a block that was held at some level; only below level 1 may a line leave for it
-abbrev pub ServedFrom : Prices → ℕ → Type 0
-ServedFrom w c = (l : ℕ) × (b : Bool) × (l ≡ 1 → b ≡ false) × (c ≡ level_price w l + pushed_out w b)
+-- an access of a block that was held at level l (4 stands for all that is deeper); at level 1 no line leaves for it
+pub record ServedFrom (w : Prices) (c l : ℕ) : Type 0 where
+  pub low : 1 ≤ l
+  pub high : l ≤ 4
+  pub left : Bool
+  pub first : l ≡ 1 → left ≡ false
+  pub cost : c ≡ level_price w l + if_left w left
 
 -- what a call that is answered so is charged
 abbrev pub Costs : Prices → Result Answer Refusal → ℕ → Type 0
 Costs w (Ok (Waits n)) c = c ≡ 0
-Costs w (Ok (Brought n)) c = (b : Bool) × (c ≡ w.wm + pushed_out w b)
-Costs w (Ok (Read s)) c = ServedFrom w c
-Costs w (Ok (Wrote s)) c = ServedFrom w c
+Costs w (Ok (Brought n)) c = (b : Bool) × (c ≡ w.wm + if_left w b)
+Costs w (Ok (Read s)) c = (l : ℕ) × ServedFrom w c l
+Costs w (Ok (Wrote s)) c = (l : ℕ) × ServedFrom w c l
 Costs w (Ok (Flushed n)) c = c ≡ w.wm
 Costs w (Ok (Committed b)) c = c ≡ cond b w.wm 0
 Costs w (Err e) c = c ≡ 0
 
--- each total noted in a history is the one before it and what the answer costs
+-- each total noted in a history is the one before it and what the answer costs, and the last is the total at the end
 abbrev pub AddsUp : Prices → ℕ → Option Played → (ℕ → Type 0) → Type 0
 AddsUp w before None rest = ⊥
 AddsUp w before (Some p) rest = (c : ℕ) × Costs w p.answer c × (p.total ≡ before + c) × rest p.total
 
-unfoldable pub AddUpFrom : Prices → ℕ → List Turn → Type 0
-AddUpFrom w before [] = Unit {0}
-AddUpFrom w before (t ∷ ts) = AddsUp w before t.played (λ total. AddUpFrom w total ts)
+unfoldable pub AddUp : Prices → ℕ → List Turn → ℕ → Type 0
+AddUp w before [] end = before ≡ end
+AddUp w before (t ∷ ts) end = AddsUp w before t.played (λ total. AddUp w total ts end)
 
 -- of a run r that has counted nothing yet
 pub record Reported (r : RunMeaning) (ks : List Call) : Type 0 where
@@ -54,7 +58,7 @@ pub record Reported (r : RunMeaning) (ks : List Call) : Type 0 where
   pub accesses : (played r ks).tally.accesses ≡ counted is_access (history r ks)
   -- the total is the sum of what the steps charged, at most 2,000 each
   pub total : (played r ks).tally.total ≡ charged_for r ks
-  pub totals : AddUpFrom r.prices 0 (history r ks)
+  pub totals : AddUp r.prices 0 (history r ks) (played r ks).tally.total
   pub charges : (k : Call) → (step (played r ks) k).charge ≤ 2000
   pub most_steps : (played r ks).tally.steps ≤ 1000000
   pub most_total : (played r ks).tally.total ≤ 2000 * (played r ks).tally.steps

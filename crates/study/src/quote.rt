@@ -12,6 +12,11 @@ pub struct Quote {
 
 /// Accesses, total and figure parted by tabs; `-` for no figure.
 impl fmt::Display for Quote {
+    ghost use Rattle.std.specs.Prelude.{Some};
+    ghost use Rattle.study.specs.Quotes.{quote_text};
+
+    ghost output = { λ q. Some (quote_text q) };
+
     fn fmt<W: fmt::Write>(&self, f: &mut fmt::Formatter<W>) -> fmt::Result {
         write!(f, "{}\t{}\t", self.accesses, self.total)?;
         match self.figure {

@@ -1,5 +1,5 @@
 -- A study of nine calls on two cores that share 16 blocks.
-use Rattle.std.specs.Prelude.{ℕ, List, [], ◌∷◌, replicate, Some, Ok, Err, Result, slice_set}
+use Rattle.std.specs.Prelude.{ℕ, List, [], ◌∷◌, map, replicate, Some, None, Ok, Err, Option, Result, slice_set}
 use Rattle.memory.specs.declared.cell.Cell.{Cell}
 use Rattle.memory.specs.declared.cell.State.{State}
 use Rattle.memory.specs.declared.cell.State.TheVariants.{Valid, Stale}
@@ -7,6 +7,9 @@ use Rattle.memory.specs.Meaning.{MemoryMeaning}
 use Rattle.memory.specs.Flat.{flat}
 use Rattle.protocol.specs.declared.answer.Answer.{Answer}
 use Rattle.protocol.specs.declared.answer.Answer.TheVariants.{Waits, Brought, Read as WasRead, Wrote, Flushed}
+use Rattle.protocol.specs.declared.answer.Word.{Word}
+use Rattle.protocol.specs.declared.answer.Word.TheVariants.{Waits as WaitsWord, Brought as BroughtWord, Read as ReadWord, Wrote as WroteWord, Flushed as FlushedWord, Refused as RefusedWord}
+use Rattle.protocol.specs.Answers.{word_of, value_of}
 use Rattle.protocol.specs.declared.call.Call.{Call}
 use Rattle.protocol.specs.declared.call.Call.TheVariants.{Read, Write, Fetch, Resume, Flush}
 use Rattle.protocol.specs.declared.refusal.Refusal.{Refusal}
@@ -14,6 +17,7 @@ use Rattle.protocol.specs.declared.refusal.Refusal.TheVariants.{StaleBlock}
 use Rattle.protocol.specs.declared.weights.Prices.{Prices}
 use Rattle.protocol.specs.Prices.{prices}
 use Rattle.machine.specs.Machine.{two_cores}
+use Rattle.study.specs.declared.turn.Played.{Played}
 use Rattle.study.specs.declared.turn.Turn.{Turn}
 use Rattle.study.specs.Run.{RunMeaning}
 use Rattle.study.specs.Opening.{opened}
@@ -49,6 +53,27 @@ nine =
     ∷ turn (Flush 0 3) (Ok (Flushed 3)) 200
     ∷ turn (Fetch 1) (Ok (Brought 3)) 300
     ∷ turn (Resume 1) (Ok (WasRead 1)) 300
+    ∷ []
+
+-- what a report tells of a turn: the word of its answer, the value, and the total after it
+abbrev pub told_of : Option Played → Option (Word × ℕ × ℕ)
+told_of None = None
+told_of (Some p) = Some (word_of p.answer, value_of p.answer, p.total)
+
+abbrev pub told : List Turn → List (Option (Word × ℕ × ℕ))
+told = map (λ (t : Turn). told_of t.played)
+
+abbrev pub report : List (Option (Word × ℕ × ℕ))
+report =
+    Some (WaitsWord, 3, 0)
+    ∷ Some (BroughtWord, 3, 100)
+    ∷ Some (ReadWord, 0, 100)
+    ∷ Some (WroteWord, 1, 100)
+    ∷ Some (WaitsWord, 3, 100)
+    ∷ Some (RefusedWord, 8, 100)
+    ∷ Some (FlushedWord, 3, 200)
+    ∷ Some (BroughtWord, 3, 300)
+    ∷ Some (ReadWord, 1, 300)
     ∷ []
 
 -- the run after the nine calls

@@ -1,5 +1,5 @@
 -- Nothing that is warranted is empty: the tiers, the memories and the machine that are shipped meet the premises.
-use Rattle.std.specs.Prelude.{◌≡◌, ℕ, ◌≤◌, false, List, [], length, Ok}
+use Rattle.std.specs.Prelude.{◌≡◌, ℕ, ◌≤◌, Bool, List, [], length, Ok}
 use Rattle.tier.specs.Meaning.{TierMeaning, Lawful as LawfulTier}
 use Rattle.tier.specs.Pile.{pile}
 use Rattle.direct.specs.Lines.{direct, empty}
@@ -20,7 +20,8 @@ use Rattle.study_examples.specs.Nine.{weights}
 pub record Premises : Type 0 where
   -- the tiers as they are made, and every pile of lawful tiers
   pub direct_tier : (l : ℕ) → 1 ≤ l → l ≤ 64 → LawfulTier (direct (empty l))
-  pub queue : (l : ℕ) → 1 ≤ l → l ≤ 16 → LawfulTier (ranked false l [])
+  -- a queue, and a set that gives out the least recently used
+  pub ranked_tier : (lru : Bool) (l : ℕ) → 1 ≤ l → l ≤ 16 → LawfulTier (ranked lru l [])
   pub set_tier : (s w : ℕ) → 1 ≤ s → s ≤ 16 → 1 ≤ w → w ≤ 4 → LawfulTier (set_associative (empty-sets s w))
   pub piled : (u l : TierMeaning) → LawfulTier u → LawfulTier l → LawfulTier (pile u l)
   -- a memory over any table that was lent under any name, and what is put over lawful memories

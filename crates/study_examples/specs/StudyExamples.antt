@@ -7,7 +7,7 @@ use Rattle.study.specs.Run.{tally}
 use Rattle.study.specs.Opening.{opening}
 use Rattle.study.specs.Play.{history, calls_of}
 use Rattle.study.specs.Settling.{end_of}
-use Rattle.study_examples.specs.Nine.{weights, blocks, begun, nine, over, table_after}
+use Rattle.study_examples.specs.Nine.{weights, blocks, begun, nine, told, report, over, table_after}
 
 pub record StudyExamples : Type 0 where
   -- a mean of 100, a third rounded down, and no mean of no access
@@ -17,6 +17,7 @@ pub record StudyExamples : Type 0 where
   -- the nine calls, whatever the name of the loan: they begin, and are answered so; 8 accepted steps, 1 write, 3 accesses, total 300
   pub nine_begin : (a : ℕ) → opening two_cores (blocks a) weights ≡ Ok (begun a)
   pub nine_history : (a : ℕ) → history (begun a) (calls_of nine) ≡ nine
+  pub nine_told : (a : ℕ) → told (history (begun a) (calls_of nine)) ≡ report
   pub nine_tally : (a : ℕ) → (over a).tally ≡ tally 8 1 3 300
   pub nine_figure : (a : ℕ) → (end_of (over a)).quote.figure ≡ Some 10000
   -- the table that was lent, afterwards

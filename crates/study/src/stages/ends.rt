@@ -1,11 +1,12 @@
 //! How a study begins and ends.
-ghost use Rattle.std.specs.Prelude.{◌≡◌, is_ok, IfErr};
+ghost use Rattle.std.specs.Prelude.{◌≡◌, is_ok, IfErr, OnOk};
 ghost use Rattle.memory.specs.Meaning.{size_of};
 ghost use Rattle.protocol.specs.Prices.{none, weighing};
 ghost use Rattle.protocol.specs.Weighing.{prices_of};
 ghost use Rattle.study.specs.Opening.{zeroed, opening};
 ghost use Rattle.study.specs.Settling.{quote_of};
 ghost use Rattle.study.specs.Stages.{run_of, opened_as, weighed_as, answer_of};
+ghost use Rattle.study.specs.Warrant.{Warranted};
 
 use crate::counts::Counts;
 use crate::stages::{Draft, RefusedDraft, Run, Settled};
@@ -52,11 +53,12 @@ impl<R: Row, M: Memory> Draft<R, M> {
         Ok(())
     }
 
-    /// Opens the study: clears every tier, makes every core ready and stores stamp 0 in every block. A draft that is refused
-    /// comes back whole, with nothing touched.
+    /// Opens the study: clears every tier, makes every core ready and stores stamp 0 in every block. From then on the run is
+    /// warranted, whatever its calls. A draft that is refused comes back whole, with nothing touched.
     pub fn open(self) -> Result<Run<R, M>, RefusedDraft<R, M>>
         ensures run { opened_as R.cores M.meaning result ≡ opening (R.cores self.row) (M.meaning self.memory) (prices_of self.weights) }
         ensures back { IfErr result (λ e. e.draft ≡ self) }
+        ensures warrant { OnOk result (Warranted (R.cores self.row) (M.meaning self.memory) (prices_of self.weights)) }
     {
         if self.row.count() > MOST_CORES {
             return Err(RefusedDraft {

@@ -1,5 +1,5 @@
 -- Each premise is a lemma of the crate that it speaks of.
-use Rattle.std.proofs.Common.{◌≡◌, ℕ, ◌≤◌, Bool, false, cond, eqb, List, [], length, None, Ok, Err, Result, refl, ap, ◌∙◌, arith, le-ltb, ne_eqb}
+use Rattle.std.proofs.Common.{◌≡◌, ℕ, ◌≤◌, Bool, cond, eqb, List, [], length, None, Ok, Err, Result, refl, ap, ◌∙◌, arith, le-ltb, ne_eqb}
 use lib.ListN.{length-replicate}
 use Rattle.tier.specs.Meaning.{Lawful as LawfulTier}
 use Rattle.tier.specs.PileLaws.{pile-lawful}
@@ -52,7 +52,7 @@ opens a t some most =
 pub returns-clause-met : goal.returns-clause-met
 returns-clause-met c = record {
   direct_tier = λ l some _. lines l some;
-  queue = λ l _ _. ranked-lawful false l [] refl;
+  ranked_tier = λ lru l _ _. ranked-lawful lru l [] refl;
   set_tier = λ s w some _ _ _. sets s w some;
   piled = pile-lawful;
   table = flat-lawful;

@@ -14,6 +14,7 @@ returns-clause-hold c = record {
   figure_none = refl;
   nine_begin = λ a. refl;
   nine_history = λ a. refl;
+  nine_told = λ a. refl;
   nine_tally = λ a. refl;
   nine_figure = λ a. refl;
   nine_lent = λ a. refl;
