@@ -54,8 +54,17 @@ impl Level {
         }
     }
 
+    /// Compiled with `--cfg low_bits`, it takes the low bits where the number of sets is a power of two, as the proved
+    /// simulator does; else it divides.
     fn set_of(&self, block: u16) -> usize {
-        (u32::from(block) % self.sets.len() as u32) as usize
+        let sets = self.sets.len() as u32;
+        let low = sets.wrapping_sub(1);
+        let set = if cfg!(low_bits) && sets & low == 0 {
+            u32::from(block) & low
+        } else {
+            u32::from(block) % sets
+        };
+        set as usize
     }
 
     /// The set and the way where a block is held.
