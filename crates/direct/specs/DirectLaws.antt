@@ -22,10 +22,10 @@ use Rattle.direct.specs.Mapped.{DirectMapped}
 -- ---- what a line shows
 
 shows-own : (g : Line) (n : ℕ) → g.block ≡ n → shows (Some g) n ≡ Some (shown_of g)
-shows-own g n e = ap (λ b. cond b (Some (shown_of g)) None) (eq-eqb g.block n e)
+shows-own g n e = ap (λ b. option_map shown_of (cond b (Some g) None)) (eq-eqb g.block n e)
 
 shows-other : (g : Line) (n : ℕ) → (g.block ≢ n) → shows (Some g) n ≡ None
-shows-other g n e = ap (λ b. cond b (Some (shown_of g)) None) (ne_eqb g.block n e)
+shows-other g n e = ap (λ b. option_map shown_of (cond b (Some g) None)) (ne_eqb g.block n e)
 
 -- a line that shows block n holds it
 shown-own : (o : Option Line) (n : ℕ) (h : Holding) → shows o n ≡ Some h → (g : Line) × (o ≡ Some g) × (g.block ≡ n) × (shown_of g ≡ h)

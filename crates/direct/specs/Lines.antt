@@ -1,5 +1,6 @@
 -- A direct-mapped tier: each block has one line where it may stand.
 use Rattle.std.specs.Prelude.{◌≡◌, ℕ, ◌%◌, cond, List, length, replicate, Some, None, Option, Result, ◌==◌, slice_index_or, slice_set}
+use Rattle.std.specs.Option.{option_map}
 use Rattle.device.specs.Device.{device}
 use Rattle.parts.specs.declared.line.Line.{Line}
 use Rattle.parts.specs.declared.refusal.BuildError.{BuildError}
@@ -17,15 +18,14 @@ slot ls n = n % length ls
 abbrev pub at : Lines → ℕ → Option Line
 at ls n = slice_index_or ls (slot ls n) None
 
--- a line that has block n
+-- the line, if it has block n
 abbrev pub having : Option Line → ℕ → Option Line
 having None n = None
 having (Some g) n = cond (g.block == n) (Some g) None
 
 -- what a line shows of block n
 abbrev pub shows : Option Line → ℕ → Option Holding
-shows None n = None
-shows (Some g) n = cond (g.block == n) (Some (shown_of g)) None
+shows o n = option_map shown_of (having o n)
 
 -- a put gives out the block found in its line
 abbrev pub direct_view : Lines → TierView

@@ -1,4 +1,4 @@
-//! The plain values that a tier takes and gives.
+//! The plain values that a tier takes and gives, and the place of a block among lines or sets.
 #![tactic(auto)]
 
 pub mod line;

@@ -71,14 +71,14 @@ stands_replaced z z' asked cs cs' c x R e f w d = rw e (elim (ℕ_discrete d c) 
   | no ne ↦ subst (Stands z (asked d)) (sym (R.there d ne)) (f d ne)
 ])
 
--- the call k may make the access
-abbrev pub Makes : Call → Access → Type 0
-Makes k (ToRead n) = Unit {0}
-Makes k (ToWrite n) = may_write k ≡ true
+-- if the access is a write, the book credits the call k
+abbrev pub Credits : Call → Access → Type 0
+Credits k (ToRead n) = Unit {0}
+Credits k (ToWrite n) = may_write k ≡ true
 
-pub resume_makes : (c : ℕ) (a : Access) → Makes (Resume c) a
-resume_makes c (ToRead n) = tt
-resume_makes c (ToWrite n) = refl
+pub resume_credits : (c : ℕ) (a : Access) → Credits (Resume c) a
+resume_credits c (ToRead n) = tt
+resume_credits c (ToWrite n) = refl
 
 -- an access by the core of the call k
 module _ (r : RunMeaning) (b : Book) (k : Call) (S : Sound r.cores r.memory b.number) (lt : core_of k < length r.cores)
@@ -199,10 +199,10 @@ module _ (r : RunMeaning) (b : Book) (k : Call) (S : Sound r.cores r.memory b.nu
         let Kept-by : Bool → Type 0 = λ x. Inv (writing r c n h).run (cond x credited (heard b k Wrote)) in
         record { inv = subst Kept-by (sym may) written; honest = silent }
 
-  pub access-good : (a : Access) → Makes k a → block_of a < size_of m → asking k b.asked c ≡ block_of a → Good b k (access r c a)
+  pub access-good : (a : Access) → Credits k a → block_of a < size_of m → asking k b.asked c ≡ block_of a → Good b k (access r c a)
   access-good a w h q = go a w h q (look_of t (block_of a)) refl
     where
-      go : (a : Access) → Makes k a → block_of a < size_of m → asking k b.asked c ≡ block_of a → (o : Option Holding) → look_of t (block_of a) ≡ o
+      go : (a : Access) → Credits k a → block_of a < size_of m → asking k b.asked c ≡ block_of a → (o : Option Holding) → look_of t (block_of a) ≡ o
           → Good b k (access_by r c a o)
       go a w h q None e = waiting-good a h q e
       go (ToRead n) w h q (Some x) e = reading-good n x q e

@@ -18,7 +18,7 @@ use Rattle.study.specs.Step.{charged, accepted, refused, step}
 use Rattle.study.specs.Opening.{opened}
 use Rattle.study.specs.Play.{played, history}
 use Rattle.study.specs.Words.{is_accepted, is_wrote, is_access, one_if, counted}
-use Rattle.study.specs.Report.{charged_for, if_left, ServedFrom, Costs, AddUp, Reported}
+use Rattle.study.specs.Report.{charged_for, if_left, ServedFrom, Costs, TotalsFrom, Reported}
 use Rattle.protocol.specs.Prices.{Affordable}
 use Rattle.study.proofs.Outcomes.{Served, Moved, performed_by, of_step}
 
@@ -161,13 +161,13 @@ counts (k ∷ ks) r =
     }
 
 -- the totals that are noted add up
-adds_up : (ks : List Call) (r : RunMeaning) → AddUp r.prices r.tally.total (history r ks) (played r ks).tally.total
-unfolding history played AddUp
-adds_up [] r = refl
-adds_up (k ∷ ks) r =
+totals_from : (ks : List Call) (r : RunMeaning) → TotalsFrom r.prices r.tally.total (history r ks) (played r ks).tally.total
+unfolding history played TotalsFrom
+totals_from [] r = refl
+totals_from (k ∷ ks) r =
     let here = fair-step r k in
     let next = (step r k).run in
-    ((step r k).charge, here.cost, here.total, subst (λ w. AddUp w next.tally.total (history next ks) (played next ks).tally.total) here.prices (adds_up ks next))
+    ((step r k).charge, here.cost, here.total, subst (λ w. TotalsFrom w next.tally.total (history next ks) (played next ks).tally.total) here.prices (totals_from ks next))
 
 -- at most one
 one-most : (b : Bool) → cond b 1 0 ≤ 1
@@ -184,7 +184,7 @@ reported cs m w ok ks =
       writes = omega (arith, all.writes);
       accesses = omega (arith, all.accesses);
       total = omega (arith, all.total);
-      totals = adds_up ks r;
+      totals = totals_from ks r;
       charges = λ k. omega (arith, (fair-step end k).cheap (subst Affordable (sym all.prices) ok), one-most (is_accepted (word_of (step end k).answer)));
       most_steps = all.few (omega arith);
       most_total = omega (arith, all.total, all.steps, all.cheap ok);

@@ -34,7 +34,7 @@ use Rattle.study.proofs.Tiers.{held, lawful-after, put_holds, put-stays, put-pas
 use Rattle.study.proofs.Memories.{Kept, kept-after, valid-named, left-lawful, left-size, left-others, left-change}
 use Rattle.study.proofs.Rows.{operated_on, turned-done}
 use Rattle.study.proofs.Sound.{Sound, but_same, but-other, inside, change-sound}
-use Rattle.study.proofs.Accesses.{Stands, Inv, Good, silent, stands-less, stands_replaced, Makes, resume_makes, access-good}
+use Rattle.study.proofs.Accesses.{Stands, Inv, Good, silent, stands-less, stands_replaced, Credits, resume_credits, access-good}
 
 -- a stamp that is owed is that of a modified copy
 owed_held : (o : Option Holding) (s : ℕ) → modified_stamp o ≡ Some s → bare o ≡ Some (modified s)
@@ -63,7 +63,7 @@ module _ (r : RunMeaning) (b : Book) (I : Inv r b) where
   provided-good k false e o f = refused-good k e
 
   -- an access that the call names, and one that was due
-  named-good : (k : Call) (a : Access) → Makes k a → asking k b.asked ≡ but b.asked (core_of k) (block_of a) → core_of k < length cs → block_of a < size_of m
+  named-good : (k : Call) (a : Access) → Credits k a → asking k b.asked ≡ but b.asked (core_of k) (block_of a) → core_of k < length cs → block_of a < size_of m
       → Good b k (access r (core_of k) a)
   named-good k a w q lt h =
       access-good r b k S lt (λ d ne. rw (q, but-other b.asked (core_of k) (block_of a) d ne) (I.states d)) I.count a w h (rw (q, but_same b.asked (core_of k) (block_of a)))
@@ -71,7 +71,7 @@ module _ (r : RunMeaning) (b : Book) (I : Inv r b) where
   resume_good : (c : ℕ) (a : Access) → c < length cs → state_at cs c ≡ Due a → Good b (Resume c) (access r c a)
   resume_good c a lt e =
       let W : Stands (size_of m) (b.asked c) (core (tier_at cs c) (Due a)) = rw e at (I.states c) in
-      access-good r b (Resume c) S lt (λ d ne. I.states d) I.count a (resume_makes c a) W.0 W.1
+      access-good r b (Resume c) S lt (λ d ne. I.states d) I.count a (resume_credits c a) W.0 W.1
 
   -- core c
   module _ (c : ℕ) (lt : c < length cs) where

@@ -41,14 +41,15 @@ Costs w (Ok (Flushed n)) c = c ≡ w.wm
 Costs w (Ok (Committed b)) c = c ≡ cond b w.wm 0
 Costs w (Err e) c = c ≡ 0
 
--- each total noted in a history is the one before it and what the answer costs, and the last is the total at the end
-abbrev pub AddsUp : Prices → ℕ → Option Played → (ℕ → Type 0) → Type 0
-AddsUp w before None rest = ⊥
-AddsUp w before (Some p) rest = (c : ℕ) × Costs w p.answer c × (p.total ≡ before + c) × rest p.total
+-- the total noted is the one before it and what the answer costs, and so is the rest
+abbrev pub TotalTurn : Prices → ℕ → Option Played → (ℕ → Type 0) → Type 0
+TotalTurn w before None rest = ⊥
+TotalTurn w before (Some p) rest = (c : ℕ) × Costs w p.answer c × (p.total ≡ before + c) × rest p.total
 
-unfoldable pub AddUp : Prices → ℕ → List Turn → ℕ → Type 0
-AddUp w before [] end = before ≡ end
-AddUp w before (t ∷ ts) end = AddsUp w before t.played (λ total. AddUp w total ts end)
+-- every total noted in a history adds what its answer costs, and the last is the total at the end
+unfoldable pub TotalsFrom : Prices → ℕ → List Turn → ℕ → Type 0
+TotalsFrom w before [] end = before ≡ end
+TotalsFrom w before (t ∷ ts) end = TotalTurn w before t.played (λ total. TotalsFrom w total ts end)
 
 -- of a run r that has counted nothing yet
 pub record Reported (r : RunMeaning) (ks : List Call) : Type 0 where
@@ -58,7 +59,7 @@ pub record Reported (r : RunMeaning) (ks : List Call) : Type 0 where
   pub accesses : (played r ks).tally.accesses ≡ counted is_access (history r ks)
   -- the total is the sum of what the steps charged, at most 2,000 each
   pub total : (played r ks).tally.total ≡ charged_for r ks
-  pub totals : AddUp r.prices 0 (history r ks) (played r ks).tally.total
+  pub totals : TotalsFrom r.prices 0 (history r ks) (played r ks).tally.total
   pub charges : (k : Call) → (step (played r ks) k).charge ≤ 2000
   pub most_steps : (played r ks).tally.steps ≤ 1000000
   pub most_total : (played r ks).tally.total ≤ 2000 * (played r ks).tally.steps

@@ -45,24 +45,17 @@ fn deepened(depth: u32, shown: (u32, u32, u32)) -> (u32, u32, u32)
     (mark, stamp, depth.saturating_add(level).min(4))
 }
 
-// Takes the block out of the tier, and puts the line into it.
-fn replace_in<L: Tier>(lower: &mut L, line: Line) -> Option<Line>
-    ensures answer { result ≡ sunk (L.Tier.meaning lower.old) (Some line) }
-    ensures next { L.Tier.meaning lower.new ≡ sink (L.Tier.meaning lower.old) (Some line) }
-{
-    let _ = lower.take(line.block);
-    lower.put(line).unwrap_or(None)
-}
-
-// The same. A block that is not held need not be taken out, and only a put of a held one is refused: mostly one lookup is saved.
+// Takes the block out of the tier, if it is there too, and puts the line into it. Only a put of a held block is refused, so the
+// put comes first, and mostly one lookup is saved.
 fn sink_into<L: Tier>(lower: &mut L, line: Line) -> Option<Line>
     ensures answer { result ≡ sunk (L.Tier.meaning lower.old) (Some line) }
     ensures next { L.Tier.meaning lower.new ≡ sink (L.Tier.meaning lower.old) (Some line) }
 {
-    match lower.put(line) {
-        Ok(out) => out,
-        Err(_) => replace_in(lower, line),
+    if let Ok(out) = lower.put(line) {
+        return out;
     }
+    let _ = lower.take(line.block);
+    lower.put(line).unwrap_or(None)
 }
 
 impl<U: Tier, L: Tier> Tier for Pile<U, L> {
@@ -82,7 +75,7 @@ impl<U: Tier, L: Tier> Tier for Pile<U, L> {
         Some(deepened(self.upper.depth(), shown))
     }
 
-    // A call of a part that the part refuses alters nothing, so each block is looked up but once in each part.
+    // The upper refuses a block that it holds, and a refused put alters nothing: only the lower is asked first.
     fn put(&mut self, line: Line) -> Result<Option<Line>, Refusal> {
         if self.lower.look(line.block).is_some() {
             return Err(Refusal::AlreadyHeld);

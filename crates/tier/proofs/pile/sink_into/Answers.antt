@@ -1,7 +1,8 @@
 -- A block that is not held need not be taken out, and a refused put alters nothing.
-use Rattle.std.proofs.Common.{Some, ap, ◌∙◌}
-use Rattle.tier.specs.Pile.{sink, sunk}
-use Rattle.tier.proofs.Moves.{taken-first, put-refused}
+use Rattle.std.proofs.Common.{ap, ◌∙◌, rules}
+use Rattle.device.specs.Device.{after}
+use Rattle.tier.specs.Meaning.{put, take}
+use Rattle.tier.proofs.Moves.{put-taken, taken-first, put-refused}
 use Rattle.tier.proofs.pile.sink_into.Goals as goal
 
 pub returns-in-Ok-clause-answer : goal.returns-in-Ok-clause-answer
@@ -14,14 +15,18 @@ returns-in-Ok-clause-next g c =
     let x = c.args.line in
     c.put.ensures.next ∙ (taken-first _ x.block x.mark x.stamp (g.met.L.Tier.lawful c.args.lower.now) _ c.in-Ok.ensures.answer).1
 
-pub returns-in-Err-clause-answer : goal.returns-in-Err-clause-answer
-returns-in-Err-clause-answer g c =
+pub returns-clause-answer : goal.returns-clause-answer
+returns-clause-answer g c =
     let x = c.args.line in
-    let same = c.put.ensures.next ∙ put-refused _ x.block x.mark x.stamp (g.met.L.Tier.lawful c.args.lower.now) _ c.in-Err.ensures.answer in
-    c.replace_in.ensures.answer ∙ ap (λ m. sunk m (Some x)) same
+    let ok = g.met.L.Tier.lawful c.args.lower.now in
+    let same = c.put.ensures.next ∙ put-refused _ x.block x.mark x.stamp ok _ c.in_default.ensures.answer in
+    let taken = c.take.ensures.next ∙ ap (λ m. after m (take x.block)) same in
+    let e = put-taken _ _ x.block x.mark x.stamp _ ok taken c.put-2.ensures.answer in
+    search rules
 
-pub returns-in-Err-clause-next : goal.returns-in-Err-clause-next
-returns-in-Err-clause-next g c =
+pub returns-clause-next : goal.returns-clause-next
+returns-clause-next g c =
     let x = c.args.line in
-    let same = c.put.ensures.next ∙ put-refused _ x.block x.mark x.stamp (g.met.L.Tier.lawful c.args.lower.now) _ c.in-Err.ensures.answer in
-    c.replace_in.ensures.next ∙ ap (λ m. sink m (Some x)) same
+    let same = c.put.ensures.next ∙ put-refused _ x.block x.mark x.stamp (g.met.L.Tier.lawful c.args.lower.now) _ c.in_default.ensures.answer in
+    let taken = c.take.ensures.next ∙ ap (λ m. after m (take x.block)) same in
+    c.put-2.ensures.next ∙ ap (λ m. after m (put x.block x.mark x.stamp)) taken
