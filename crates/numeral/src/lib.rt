@@ -10,19 +10,19 @@ use thiserror::Error;
 #[derive(Clone, Copy, PartialEq, Eq, Debug, Error)]
 pub enum BadNumber {
     /// There are no bytes.
-    #[error("there is no block number")]
+    #[error("there is no number")]
     Empty,
     /// A byte is no digit, or a zero leads.
     #[error("not a decimal number without leading zeros")]
     NotDecimal,
     /// The number is above 65,535.
-    #[error("block numbers end at 65535")]
+    #[error("numbers end at 65535")]
     TooLarge,
 }
 
 // No `TryFrom`: neither the bytes nor the number is a type of this crate.
 /// The number that the bytes write. It is read just where the bytes are what that number is written as.
-pub fn block_number(bytes: &[u8]) -> Result<u16, BadNumber>
+pub fn number(bytes: &[u8]) -> Result<u16, BadNumber>
     ensures value { result ≡ number_of bytes.now }
     ensures law { ReadsDecimals bytes.now result }
 {

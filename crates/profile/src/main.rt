@@ -3,7 +3,6 @@
 #![tactic(auto)]
 
 use machine::{Caches, two_levels};
-use numeral::block_number;
 use profiling::{Access, Profile};
 use std::io::{BufRead, BufReader};
 use std::{fmt, io};
@@ -40,7 +39,7 @@ fn replay(rt: &HostRuntime, profile: &mut Profile<Caches>) -> io::Result<u64> {
     let mut number = 0u64;
     let mut bad = 0u64;
     for (place, line) in (1u64..).zip(input.split(rt.alloc(), b'\n')) {
-        match block_number(line?.as_slice()) {
+        match numeral::number(line?.as_slice()) {
             Ok(block) => {
                 number = number.saturating_add(1);
                 let access = profile.access(block);

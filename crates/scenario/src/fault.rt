@@ -1,0 +1,136 @@
+//! What may be wrong with a scenario.
+ghost use Rattle.std.specs.Prelude.{◌≡◌};
+ghost use Rattle.scenario.specs.declared.fault.Layer.TheVariants.{Text, Layout};
+ghost use Rattle.scenario.specs.Faults.{spelling, told};
+
+use protocol::refusal::Refusal;
+use records::fault::{Place, TextFault};
+
+/// What is wrong with a layout.
+#[derive(Clone, Copy, PartialEq, Eq, Debug)]
+pub enum LayoutFault {
+    /// The table has other than 256 entries.
+    BadTable,
+    /// The reference to be placed is above 255, or was placed before.
+    Taken(Place),
+    /// The reference of a step is not placed.
+    Unplaced(Place),
+}
+
+/// What is wrong with a scenario: with its text, its layout, or the study that it asks for.
+#[derive(Clone, Copy, PartialEq, Eq, Debug)]
+pub enum Fault {
+    Text(TextFault),
+    Layout(LayoutFault),
+    Study(Refusal),
+}
+
+impl From<TextFault> for Fault {
+    ghost use Rattle.scenario.specs.declared.fault.Fault.TheVariants.{Text};
+
+    ghost from_gives = { λ e f. f ≡ Text e };
+
+    fn from(fault: TextFault) -> Fault {
+        Fault::Text(fault)
+    }
+}
+
+impl From<LayoutFault> for Fault {
+    ghost use Rattle.scenario.specs.declared.fault.Fault.TheVariants.{Layout};
+
+    ghost from_gives = { λ e f. f ≡ Layout e };
+
+    fn from(fault: LayoutFault) -> Fault {
+        Fault::Layout(fault)
+    }
+}
+
+impl From<Refusal> for Fault {
+    ghost use Rattle.scenario.specs.declared.fault.Fault.TheVariants.{Study};
+
+    ghost from_gives = { λ e f. f ≡ Study e };
+
+    fn from(refusal: Refusal) -> Fault {
+        Fault::Study(refusal)
+    }
+}
+
+/// Where a fault comes from.
+#[derive(Clone, Copy, PartialEq, Eq, Debug)]
+pub enum Layer {
+    Text,
+    Layout,
+    Study,
+}
+
+impl Layer {
+    /// The layer as a report spells it.
+    pub fn bytes(self) -> &'static [u8]
+        ensures { result.now ≡ spelling self }
+    {
+        match self {
+            Layer::Text => b"text",
+            Layer::Layout => b"layout",
+            Layer::Study => b"study",
+        }
+    }
+}
+
+/// A fault, as a report tells it. Line and field count from 1; 0 stands for none.
+#[derive(Clone, Copy, PartialEq, Eq, Debug)]
+pub struct Told {
+    pub layer: Layer,
+    pub line: u32,
+    pub field: u32,
+    pub number: u8,
+}
+
+impl Told {
+    fn text(line: u32, field: u32, number: u8) -> Told
+        ensures { result ≡ told Text line field number }
+    {
+        Told {
+            layer: Layer::Text,
+            line,
+            field,
+            number,
+        }
+    }
+
+    fn layout(line: u32, field: u32, number: u8) -> Told
+        ensures { result ≡ told Layout line field number }
+    {
+        Told {
+            layer: Layer::Layout,
+            line,
+            field,
+            number,
+        }
+    }
+}
+
+/// How a report tells a fault.
+impl From<Fault> for Told {
+    ghost use Rattle.scenario.specs.Faults.{told_of};
+
+    ghost from_gives = { λ f t. t ≡ told_of f };
+
+    fn from(fault: Fault) -> Told {
+        match fault {
+            Fault::Text(TextFault::TooLong) => Told::text(0, 0, 15),
+            Fault::Text(TextFault::Unended { line }) => Told::text(line, 0, 16),
+            Fault::Text(TextFault::Misplaced { line }) => Told::text(line, 1, 17),
+            Fault::Text(TextFault::Miscounted { line }) => Told::text(line, 0, 18),
+            Fault::Text(TextFault::NotANumber(at)) => Told::text(at.line, at.field, 19),
+            Fault::Layout(LayoutFault::BadTable) => Told::layout(0, 0, 14),
+            Fault::Layout(LayoutFault::Taken(at)) => Told::layout(at.line, at.field, 20),
+            Fault::Layout(LayoutFault::Unplaced(at)) => Told::layout(at.line, at.field, 21),
+            Fault::Study(refusal) => Told {
+                layer: Layer::Study,
+                line: 1,
+                field: 0,
+                number: u8::from(refusal),
+            },
+        }
+    }
+}
