@@ -74,5 +74,5 @@ abbrev pub change_of : List ℕ → Keyword × List Located → Result Change Fa
 change_of layout r = changed layout r.0 r.1
 
 -- a line without its line feed, read in a section under a layout
-abbrev pub line_change : List ℕ → Section → ℕ → List ℕ → Result Change Fault
+unfoldable pub line_change : List ℕ → Section → ℕ → List ℕ → Result Change Fault
 line_change layout s line bs = and_then (as_text (line_of s line bs)) (change_of layout)

@@ -5,6 +5,8 @@ use Rattle.records.specs.declared.fault.TextFault.TheVariants.{TooLong, Unended,
 use Rattle.scenario.specs.declared.fault.LayoutFault.TheVariants.{BadTable, Taken, Unplaced}
 use Rattle.scenario.specs.declared.fault.Fault.{Fault}
 use Rattle.scenario.specs.declared.fault.Fault.TheVariants.{Text, Layout, Study}
+use Rattle.scenario.specs.declared.fault.File.{File}
+use Rattle.scenario.specs.declared.fault.File.TheVariants.{Placement, Schedule}
 use Rattle.scenario.specs.declared.fault.Layer.{Layer}
 use Rattle.scenario.specs.declared.fault.Layer.TheVariants.{Text as TextLayer, Layout as LayoutLayer, Study as StudyLayer}
 use Rattle.scenario.specs.declared.fault.Told.{Told}
@@ -13,6 +15,10 @@ abbrev pub spelling : Layer → List ℕ
 spelling TextLayer = codes "text"
 spelling LayoutLayer = codes "layout"
 spelling StudyLayer = codes "study"
+
+abbrev pub file_spelling : File → List ℕ
+file_spelling Placement = codes "placement"
+file_spelling Schedule = codes "schedule"
 
 abbrev pub told : Layer → ℕ → ℕ → ℕ → Told
 told l line field n = record { layer = l; line = line; field = field; number = n }

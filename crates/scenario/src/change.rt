@@ -87,6 +87,7 @@ fn meant(line: Record<'_>, layout: &[u32]) -> Result<Change, Fault>
 }
 
 // What a line changes, which is given without its line feed.
+#[tactic(auto, unfolding(crate::specs::Changes::line_change))]
 pub(crate) fn line_change(
     bytes: &[u8],
     line: u32,

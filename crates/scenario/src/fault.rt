@@ -1,7 +1,7 @@
 //! What may be wrong with a scenario.
 ghost use Rattle.std.specs.Prelude.{◌≡◌};
 ghost use Rattle.scenario.specs.declared.fault.Layer.TheVariants.{Text, Layout};
-ghost use Rattle.scenario.specs.Faults.{spelling, told};
+ghost use Rattle.scenario.specs.Faults.{spelling, file_spelling, told};
 
 use protocol::refusal::Refusal;
 use records::fault::{Place, TextFault};
@@ -52,6 +52,40 @@ impl From<Refusal> for Fault {
 
     fn from(refusal: Refusal) -> Fault {
         Fault::Study(refusal)
+    }
+}
+
+/// The two texts of a single study.
+#[derive(Clone, Copy, PartialEq, Eq, Debug)]
+pub enum File {
+    Placement,
+    Schedule,
+}
+
+/// A fault of one of two texts.
+#[derive(Clone, Copy, PartialEq, Eq, Debug)]
+pub struct FileFault {
+    pub file: File,
+    pub fault: Fault,
+}
+
+impl File {
+    /// The text as a report spells it.
+    pub fn bytes(self) -> &'static [u8]
+        ensures { result.now ≡ file_spelling self }
+    {
+        match self {
+            File::Placement => b"placement",
+            File::Schedule => b"schedule",
+        }
+    }
+}
+
+impl FileFault {
+    pub(crate) fn of(file: File, fault: Fault) -> FileFault
+        ensures { result ≡ record { file = file; fault = fault } }
+    {
+        FileFault { file, fault }
     }
 }
 

@@ -4,3 +4,6 @@
 pub mod change;
 pub mod fault;
 pub mod layout;
+pub mod reader;
+pub mod steps;
+pub mod texts;

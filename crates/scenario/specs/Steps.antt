@@ -1,0 +1,31 @@
+-- The steps of a text, as they are read again.
+use Rattle.std.specs.Prelude.{ℕ, ◌+◌, List, [], ◌∷◌, Some, None, Ok, Err, Option, Result}
+use Rattle.fields.specs.Parts.{parts}
+use Rattle.protocol.specs.declared.call.Call.{Call}
+use Rattle.records.specs.declared.keyword.Section.{Section}
+use Rattle.records.specs.declared.keyword.Section.TheVariants.{Steps}
+use Rattle.scenario.specs.declared.change.Change.{Change}
+use Rattle.scenario.specs.declared.change.Change.TheVariants.{Weigh, Lay, Make}
+use Rattle.scenario.specs.declared.fault.Fault.{Fault}
+use Rattle.scenario.specs.declared.steps.Steps.{Steps as StepsOfText}
+use Rattle.scenario.specs.Changes.{line_change}
+
+-- the call that a line makes, if it makes one
+abbrev pub made : Result Change Fault → Option Call
+made (Ok (Weigh w)) = None
+made (Ok (Lay r b)) = None
+made (Ok (Make k)) = Some k
+made (Err e) = None
+
+abbrev pub onto : Option Call → List Call → List Call
+onto None ks = []
+onto (Some k) ks = k ∷ ks
+
+-- the calls of the lines from number `line` on, up to the first that makes none
+unfoldable pub calls_from : List ℕ → Section → ℕ → List (List ℕ) → List Call
+calls_from layout s line [] = []
+calls_from layout s line (p ∷ []) = []
+calls_from layout s line (p ∷ q ∷ ps) = onto (made (line_change layout s line p)) (calls_from layout Steps (line + 1) (q ∷ ps))
+
+abbrev pub calls_in : List ℕ → StepsOfText → List Call
+calls_in layout t = calls_from layout t.section t.line (parts 10 t.rest.now)

@@ -1,0 +1,101 @@
+//! Texts: read line by line, without a heap.
+ghost use Rattle.std.specs.Prelude.{◌≡◌, ◌≤◌, length};
+ghost use Rattle.scenario.specs.Changes.{as_text};
+ghost use Rattle.scenario.specs.Scan.{ended, after_weights};
+ghost use Rattle.scenario.specs.Reading.{read_as, section_of, laid};
+
+use crate::change::{Change, line_change};
+use crate::fault::Fault;
+use crate::layout::{lay, unplace};
+use crate::steps::Steps;
+use fields::{LINE_FEED, cut};
+use protocol::weights::Prices;
+use records::fault::TextFault;
+use records::keyword::Section;
+
+/// The most bytes of a text.
+pub const MOST_BYTES: usize = 65_536;
+
+/// A text that was read: its weights, and its steps, which stay in it.
+#[derive(Clone, Copy)]
+pub struct Text<'t> {
+    pub prices: Prices,
+    pub steps: Steps<'t>,
+}
+
+// The section after the weights: a schedule has no placements.
+fn after_weights(section: Section) -> Section
+    ensures { result ≡ after_weights section }
+{
+    match section {
+        Section::Schedule => Section::Steps,
+        _ => Section::Refs,
+    }
+}
+
+// What follows the last line feed is nothing, and the text has begun with its weights, unless it is a placement.
+fn ended(rest: &[u8], line: u32, section: Section) -> Result<(), TextFault>
+    ensures { as_text result ≡ ended section line rest.now }
+{
+    if !rest.is_empty() {
+        return Err(TextFault::Unended { line });
+    }
+    match section {
+        Section::Scenario | Section::Schedule => Err(TextFault::Misplaced { line }),
+        _ => Ok(()),
+    }
+}
+
+// The lines of a text that is not too long.
+fn lines<'t>(text: &'t [u8], layout: &mut [u32], first: Section) -> Result<Text<'t>, Fault>
+    requires { length text.now ≤ 65536 }
+    ensures { read_as result layout.new ≡ section_of first layout.old text.now }
+{
+    let mut prices = Prices::default();
+    let mut section = first;
+    let mut line: u32 = 1;
+    let mut rest = text;
+    let mut steps = Steps::at(text, 1, first);
+    while let Some((bytes, more)) = cut(rest, LINE_FEED) {
+        match line_change(bytes, line, section, layout)? {
+            Change::Weigh(given) => {
+                prices = given;
+                section = after_weights(section);
+                steps = Steps::at(more, line + 1, section);
+            }
+            Change::Lay { reference, block } => {
+                lay(layout, reference, block);
+                steps = Steps::at(more, line + 1, section);
+            }
+            Change::Make(_) => section = Section::Steps,
+        }
+        rest = more;
+        line += 1;
+    }
+    ended(rest, line, section)?;
+    Ok(Text { prices, steps })
+}
+
+// A text that may be too long.
+#[tactic(auto, unfolding(crate::specs::Reading::section_of))]
+fn whole<'t>(text: &'t [u8], layout: &mut [u32], first: Section) -> Result<Text<'t>, Fault>
+    ensures { read_as result layout.new ≡ section_of first layout.old text.now }
+{
+    if text.len() > MOST_BYTES {
+        return Err(Fault::from(TextFault::TooLong));
+    }
+    lines(text, layout, first)
+}
+
+/// Reads a text that begins in this section, under a layout in which it places what its lines place. If it has a fault, nothing
+/// is placed.
+pub fn read<'t>(text: &'t [u8], layout: &mut [u32], first: Section) -> Result<Text<'t>, Fault>
+    ensures answer { read_as result layout.new ≡ section_of first layout.old text.now }
+    ensures table { layout.new ≡ laid (length layout.old) (section_of first layout.old text.now) }
+{
+    let answer = whole(text, layout, first);
+    if answer.is_err() {
+        unplace(layout);
+    }
+    answer
+}

@@ -1,0 +1,48 @@
+//! The steps of a text, one after another.
+ghost use Rattle.std.specs.Prelude.{◌≡◌, ◌≤◌, ◌+◌, MatchOption, length, [], ◌∷◌};
+ghost use Rattle.scenario.specs.Steps.{made, calls_in};
+
+use crate::change::{Change, line_change};
+use crate::fault::Fault;
+use crate::steps::Steps;
+use fields::{LINE_FEED, cut};
+use protocol::call::Call;
+use records::keyword::Section;
+
+// The call that a line makes, if it makes one.
+fn made(change: Result<Change, Fault>) -> Option<Call>
+    ensures { result ≡ made change }
+{
+    match change {
+        Ok(Change::Make(call)) => Some(call),
+        _ => None,
+    }
+}
+
+impl<'t> Steps<'t> {
+    pub(crate) fn at(rest: &'t [u8], line: u32, section: Section) -> Steps<'t>
+        requires { line + length rest.now ≤ 65537 }
+        ensures { (result.rest.now ≡ rest.now) × (result.line ≡ line) × (result.section ≡ section) }
+    {
+        Steps {
+            rest,
+            line,
+            section,
+        }
+    }
+
+    #[tactic(auto, using(crate::proofs::Calls::calls_first, crate::proofs::Calls::calls_end, crate::proofs::Calls::calls_last))]
+    /// The next call, and the steps after it; none at the end.
+    pub fn first(self, layout: &[u32]) -> Option<(Call, Steps<'t>)>
+        ensures { MatchOption result (calls_in layout.now self.entry ≡ []) (λ x. calls_in layout.now self.entry ≡ x.0 ∷ calls_in layout.now x.1) }
+    {
+        let (bytes, more) = cut(self.rest, LINE_FEED)?;
+        let call = made(line_change(bytes, self.line, self.section, layout))?;
+        let after = Steps {
+            rest: more,
+            line: self.line + 1,
+            section: Section::Steps,
+        };
+        Some((call, after))
+    }
+}
