@@ -11,12 +11,12 @@ use Rattle.protocol.specs.declared.weights.Prices.{Prices}
 use Rattle.protocol.specs.Prices.{weighing}
 use Rattle.row.specs.Cores.{CoreMeaning, count_of}
 use Rattle.study.specs.Run.{RunMeaning}
-use Rattle.study.specs.Opening.{opened, opening}
+use Rattle.study.specs.Opening.{opened, opening, started}
 use Rattle.study.specs.Play.{played}
 use Rattle.study.specs.Settling.{Ending, simulated}
 use Rattle.study.specs.Stages.{weighed_as, answer_of}
 use Rattle.study.proofs.Loans.{loans-kept}
-use Rattle.lent_study.specs.Lent.{started, memory_after, lent}
+use Rattle.lent_study.specs.Lent.{memory_after, lent}
 
 no_end : (x : Ending) (e : Refusal) → ◌≡◌ {A = Result Ending Refusal} (Ok x) (Err e) → ⊥
 no_end x e p = let z : ◌≡◌ {A = ℕ} 0 1 = cc in omega arith

@@ -11,15 +11,10 @@ use Rattle.row.specs.Cores.{CoreMeaning}
 use Rattle.study.specs.declared.quote.Quote.{Quote}
 use Rattle.study.specs.declared.turn.Turn.{Turn}
 use Rattle.study.specs.Run.{RunMeaning}
-use Rattle.study.specs.Opening.{opening}
+use Rattle.study.specs.Opening.{started}
 use Rattle.study.specs.Play.{played, calls_of}
 use Rattle.study.specs.Settling.{Ending, simulated, recorded}
 use Rattle.study.specs.Warrant.{Warranted}
-
--- a draft is weighed and opened
-abbrev pub started : Result Prices Refusal → List CoreMeaning → MemoryMeaning → Result RunMeaning Refusal
-started (Ok w) cs m = opening cs m w
-started (Err e) cs m = Err e
 
 -- the memory m afterwards: as the run leaves it, or untouched
 abbrev pub memory_after : Result RunMeaning Refusal → MemoryMeaning → List Call → MemoryMeaning

@@ -1,14 +1,25 @@
 -- Playing a schedule, one call after another.
-use Rattle.std.proofs.Common.{◌≡◌, ℕ, ◌+◌, ◌<◌, ◌≤◌, List, [], ◌∷◌, ◌++◌, length, get_or, take, drop, set, sym, ap, ◌∙◌, append_assoc, append-nil, add-one, arith, drop_of_length-le, take_all, take-suc-set, drop-set-lt}
+use Rattle.std.proofs.Common.{◌≡◌, ℕ, ◌+◌, ◌<◌, ◌≤◌, List, [], ◌∷◌, ◌++◌, length, Some, get_or, take, drop, set, sym, ap, ◌∙◌, append_assoc, append-nil, add-one, arith, drop_of_length-le, take_all, take-suc-set, drop-set-lt}
 use Rattle.std.proofs.lemmas.List.{drop_more}
+use Rattle.protocol.specs.declared.call.Call.{Call}
+use Rattle.study.specs.declared.turn.Played.{Played}
 use Rattle.study.specs.declared.turn.Turn.{Turn}
 use Rattle.study.specs.Run.{RunMeaning}
 use Rattle.study.specs.Step.{step}
-use Rattle.study.specs.Play.{turn_of, played, history, calls_of}
+use Rattle.study.specs.Play.{played_of, turn_of, played, history, calls_of}
 
--- the call of turn i was made, and the turn x stands in its place
-module _ (r r' : RunMeaning) (s : List Turn) (i : ℕ) (d x : Turn) (lt : i < length s)
-    (run : r' ≡ (step r (get_or s i d).call).run) (turn : x ≡ turn_of r (get_or s i d).call) where
+abbrev with_answer : Call → Played → Turn
+with_answer k p = record { call = k; played = Some p }
+
+-- the call k of turn i was made, and what became of it stands beside it
+module _ (r r' : RunMeaning) (s : List Turn) (i : ℕ) (d : Turn) (p : Played) (lt : i < length s)
+    (run : r' ≡ (step r (get_or s i d).call).run) (told : p ≡ played_of r (get_or s i d).call) where
+  abbrev x : Turn
+  x = with_answer (get_or s i d).call p
+
+  turn : x ≡ turn_of r (get_or s i d).call
+  turn = ap (with_answer (get_or s i d).call) told
+
   rest : drop (i + 1) (set s i x) ≡ drop (i + 1) s
   rest = drop-set-lt (i + 1) s i x (omega arith)
 

@@ -19,3 +19,8 @@ opened cs m w = a_run (renewed cs) (zeroed (size_of m) m) w (tally 0 0 0 0)
 -- at most eight cores, and at least one block
 abbrev pub opening : List CoreMeaning → MemoryMeaning → Prices → Result RunMeaning Refusal
 opening cs m w = cond (nat_lt 8 (count_of cs)) (Err TooManyCores) (cond (size_of m == 0) (Err NoBlocks) (Ok (opened cs m w)))
+
+-- a draft is weighed and opened
+abbrev pub started : Result Prices Refusal → List CoreMeaning → MemoryMeaning → Result RunMeaning Refusal
+started (Ok w) cs m = opening cs m w
+started (Err e) cs m = Err e

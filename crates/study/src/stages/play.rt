@@ -3,7 +3,7 @@ ghost use Rattle.std.specs.Prelude.{◌≡◌, IfErr, OnOk};
 ghost use Rattle.protocol.specs.Weighing.{prices_of};
 ghost use Rattle.study.specs.Step.{step};
 ghost use Rattle.study.specs.Opening.{opening};
-ghost use Rattle.study.specs.Play.{turn_of, played, history, calls_of};
+ghost use Rattle.study.specs.Play.{played_of, played, history, calls_of};
 ghost use Rattle.study.specs.Settling.{simulated, recorded};
 ghost use Rattle.study.specs.Stages.{run_of, ended_as};
 ghost use Rattle.study.specs.Warrant.{Warranted};
@@ -15,17 +15,14 @@ use protocol::call::Call;
 use row::Row;
 
 impl<R: Row, M: Memory> Run<R, M> {
-    // One step, with its answer and the total after it.
-    fn take_turn(&mut self, call: Call) -> Turn
+    /// One step: its answer, and the total after it.
+    pub fn take_turn(&mut self, call: Call) -> Played
         ensures run { run_of R.cores M.meaning self.new ≡ (step (run_of R.cores M.meaning self.old) call).run }
-        ensures turn { result ≡ turn_of (run_of R.cores M.meaning self.old) call }
+        ensures played { result ≡ played_of (run_of R.cores M.meaning self.old) call }
     {
         let answer = self.step(call);
         let total = self.counts.total();
-        Turn {
-            call,
-            played: Some(Played { answer, total }),
-        }
+        Played { answer, total }
     }
 
     /// Makes the calls in order, and notes with each its answer and the total after it.
@@ -34,7 +31,7 @@ impl<R: Row, M: Memory> Run<R, M> {
         ensures turns { schedule.new ≡ history (run_of R.cores M.meaning self.old) (calls_of schedule.old) }
     {
         for turn in schedule {
-            *turn = self.take_turn(turn.call);
+            turn.played = Some(self.take_turn(turn.call));
         }
     }
 }

@@ -6,8 +6,8 @@ pub loop-turn-preserved : goal.loop-turn-preserved
 loop-turn-preserved g c =
     let turns = c.loop-turn.turn-items in
     let i = c.loop-turn.turn-index in (
-      played-next _ _ turns i _ _ (omega arith) c.take_turn.ensures.run c.take_turn.ensures.turn ∙ c.loop-turn.invariant.0,
-      history-next _ _ turns i _ _ (omega arith) c.take_turn.ensures.run c.take_turn.ensures.turn ∙ c.loop-turn.invariant.1,
+      played-next _ _ turns i _ _ (omega arith) c.take_turn.ensures.run c.take_turn.ensures.played ∙ c.loop-turn.invariant.0,
+      history-next _ _ turns i _ _ (omega arith) c.take_turn.ensures.run c.take_turn.ensures.played ∙ c.loop-turn.invariant.1,
     )
 
 pub returns : goal.returns
