@@ -1,0 +1,113 @@
+//! The lines of a paired study.
+ghost use Rattle.std.specs.Prelude.{◌≡◌};
+ghost use Rattle.report.specs.Pairs.{side_spelling, file_spelling, refused_line, side_quote_line, side_fault_line, cheaper, difference_line};
+
+use crate::line::Line;
+use fields::{LINE_FEED, TAB};
+use protocol::refusal::Refusal;
+use scenario::fault::Fault;
+use study::quote::Quote;
+
+/// One of the two studies.
+#[derive(Clone, Copy)]
+pub enum Side {
+    A,
+    B,
+}
+
+impl Side {
+    /// The side as a line spells it.
+    pub fn bytes(self) -> &'static [u8]
+        ensures { result.now ≡ side_spelling self }
+    {
+        match self {
+            Side::A => b"a",
+            Side::B => b"b",
+        }
+    }
+}
+
+/// One of the two texts that a study reads.
+#[derive(Clone, Copy)]
+pub enum File {
+    Placement,
+    Schedule,
+}
+
+impl File {
+    /// The file as a line spells it.
+    pub fn bytes(self) -> &'static [u8]
+        ensures { result.now ≡ file_spelling self }
+    {
+        match self {
+            File::Placement => b"placement",
+            File::Schedule => b"schedule",
+        }
+    }
+}
+
+impl Line {
+    /// A refused step of a side, by its number among the steps, and the number of the refusal.
+    pub fn of_refused(side: Side, step: u32, refusal: Refusal) -> Line
+        ensures { result ≡ refused_line side step refusal }
+    {
+        let mut line = Line::empty();
+        line.prepend_number(u64::from(u8::from(refusal)), LINE_FEED);
+        line.prepend_number(u64::from(step), TAB);
+        line.prepend_text(b"refused", TAB);
+        line.prepend_text(side.bytes(), TAB);
+        line
+    }
+
+    /// The quote of a side.
+    pub fn of_side_quote(side: Side, quote: &Quote) -> Line
+        ensures { result ≡ side_quote_line side quote.now }
+    {
+        let mut line = Line::of_quote(quote);
+        line.prepend_text(side.bytes(), TAB);
+        line
+    }
+
+    /// The fault of a side, and which of its files has it.
+    pub fn of_side_fault(side: Side, file: File, fault: Fault) -> Line
+        ensures { result ≡ side_fault_line side file fault }
+    {
+        let mut line = Line::of_told(fault);
+        line.prepend_text(file.bytes(), TAB);
+        line.prepend_text(b"fault", TAB);
+        line.prepend_text(side.bytes(), TAB);
+        line
+    }
+
+    /// The difference of the figures of the sides, and which of them is cheaper.
+    pub fn of_difference(a: Option<u64>, b: Option<u64>) -> Line
+        ensures { result ≡ difference_line a b }
+    {
+        let mut line = Line::empty();
+        match (a, b) {
+            (Some(a), Some(b)) => {
+                line.prepend_text(cheaper(a, b), LINE_FEED);
+                line.prepend_number(a.abs_diff(b), TAB);
+            }
+            _ => {
+                line.prepend_text(b"-", LINE_FEED);
+                line.prepend_text(b"-", TAB);
+            }
+        }
+        line.prepend_text(b"difference", TAB);
+        line
+    }
+}
+
+// The side with the smaller figure.
+fn cheaper(a: u64, b: u64) -> &'static [u8]
+    ensures text { result.now ≡ cheaper a b }
+{
+    if a < b {
+        b"a"
+    } else if b < a {
+        b"b"
+    } else {
+        b"equal"
+    }
+}

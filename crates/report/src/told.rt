@@ -1,0 +1,64 @@
+//! The lines of a report: what became of a step, a quote, a fault.
+ghost use Rattle.std.specs.Prelude.{◌≡◌, ◌≤◌, length};
+ghost use Rattle.scenario.specs.Faults.{told_of};
+ghost use Rattle.report.specs.Lines.{row, step_line, quote_line, told_fields, fault_line};
+
+use crate::line::Line;
+use fields::{LINE_FEED, TAB};
+use protocol::answer::{Word, value_of};
+use scenario::fault::{Fault, Told};
+use study::quote::Quote;
+use study::turn::Played;
+
+impl Line {
+    /// What became of a step: its number, the word, the value, and the total after it.
+    pub fn of_step(number: u32, played: &Played) -> Line
+        ensures text { result ≡ step_line number played.now }
+    {
+        let mut line = Line::empty();
+        line.prepend_number(played.total, LINE_FEED);
+        line.prepend_number(u64::from(value_of(played.answer)), TAB);
+        line.prepend_text(Word::from(played.answer).bytes(), TAB);
+        line.prepend_number(u64::from(number), TAB);
+        line
+    }
+
+    /// A quote: accesses, total, and the figure, or `-` where there is none.
+    pub fn of_quote(quote: &Quote) -> Line
+        ensures text { result ≡ quote_line quote.now }
+        ensures short { length result ≤ 69 }
+    {
+        let mut line = Line::empty();
+        match quote.figure {
+            Some(figure) => line.prepend_number(figure, LINE_FEED),
+            None => line.prepend_text(b"-", LINE_FEED),
+        }
+        line.prepend_number(quote.total, TAB);
+        line.prepend_number(u64::from(quote.accesses), TAB);
+        line.prepend_text(b"quote", TAB);
+        line
+    }
+
+    /// A fault: its layer, line, field and number.
+    pub fn of_fault(fault: Fault) -> Line
+        ensures text { result ≡ fault_line fault }
+    {
+        let mut line = Line::of_told(fault);
+        line.prepend_text(b"fault", TAB);
+        line
+    }
+
+    // The fields of a fault without the word before them.
+    pub(crate) fn of_told(fault: Fault) -> Line
+        ensures text { result ≡ row (told_fields (told_of fault)) }
+        ensures short { length result ≤ 70 }
+    {
+        let told = Told::from(fault);
+        let mut line = Line::empty();
+        line.prepend_number(u64::from(told.number), LINE_FEED);
+        line.prepend_number(u64::from(told.field), TAB);
+        line.prepend_number(u64::from(told.line), TAB);
+        line.prepend_text(told.layer.bytes(), TAB);
+        line
+    }
+}
