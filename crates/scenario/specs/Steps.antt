@@ -1,5 +1,5 @@
 -- The steps of a text, as they are read again.
-use Rattle.std.specs.Prelude.{ℕ, ◌+◌, List, [], ◌∷◌, Some, None, Ok, Err, Option, Result}
+use Rattle.std.specs.Prelude.{ℕ, ◌+◌, List, [], ◌∷◌, length, Some, None, Ok, Err, Option, Result}
 use Rattle.fields.specs.Parts.{parts}
 use Rattle.protocol.specs.declared.call.Call.{Call}
 use Rattle.records.specs.declared.keyword.Section.{Section}
@@ -29,3 +29,6 @@ calls_from layout s line (p ∷ q ∷ ps) = onto (made (line_change layout s lin
 
 abbrev pub calls_in : List ℕ → StepsOfText → List Call
 calls_in layout t = calls_from layout t.section t.line (parts 10 t.rest.now)
+
+abbrev pub bytes_left : StepsOfText → ℕ
+bytes_left t = length t.rest.now

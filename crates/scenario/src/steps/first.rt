@@ -1,6 +1,6 @@
 //! The steps of a text, one after another.
-ghost use Rattle.std.specs.Prelude.{◌≡◌, ◌≤◌, ◌+◌, MatchOption, length, [], ◌∷◌};
-ghost use Rattle.scenario.specs.Steps.{made, calls_in};
+ghost use Rattle.std.specs.Prelude.{◌≡◌, ◌<◌, ◌≤◌, ◌+◌, IfSome, MatchOption, length, [], ◌∷◌};
+ghost use Rattle.scenario.specs.Steps.{made, calls_in, bytes_left};
 
 use crate::change::{Change, line_change};
 use crate::fault::Fault;
@@ -34,7 +34,8 @@ impl<'t> Steps<'t> {
     #[tactic(auto, using(crate::proofs::Calls::calls_first, crate::proofs::Calls::calls_end, crate::proofs::Calls::calls_last))]
     /// The next call, and the steps after it; none at the end.
     pub fn first(self, layout: &[u32]) -> Option<(Call, Steps<'t>)>
-        ensures { MatchOption result (calls_in layout.now self.entry ≡ []) (λ x. calls_in layout.now self.entry ≡ x.0 ∷ calls_in layout.now x.1) }
+        ensures next { MatchOption result (calls_in layout.now self.entry ≡ []) (λ x. calls_in layout.now self.entry ≡ x.0 ∷ calls_in layout.now x.1) }
+        ensures shorter { IfSome result (λ x. bytes_left x.1 < bytes_left self.entry) }
     {
         let (bytes, more) = cut(self.rest, LINE_FEED)?;
         let call = made(line_change(bytes, self.line, self.section, layout))?;

@@ -1,0 +1,19 @@
+use Rattle.std.proofs.Common.{◌≡◌, ◌≤◌, ◌+◌, OnOk}
+use Rattle.study.specs.Play.{played}
+use Rattle.study.specs.Stages.{run_of}
+use Rattle.scenario.specs.Steps.{calls_in, bytes_left}
+use Rattle.simulator.proofs.Telling.{Told}
+use Rattle.simulator.proofs.play.play.Given as goal
+
+abbrev pub invariant-loop-call : goal.invariant-loop-call
+invariant-loop-call g l =
+    let r = run_of g.R.Row.cores g.M.Memory.meaning l.run in
+    let r₀ = run_of g.R.Row.cores g.M.Memory.meaning l.initial.run in
+    let ks = calls_in l.layout l.rest in
+    let ks₀ = calls_in l.layout l.steps in
+    (l.number + bytes_left l.rest ≤ 65538)
+    × (played r ks ≡ played r₀ ks₀)
+    × OnOk l.written (Told r r₀ ks ks₀ l.number (g.W.Write.contents l.out) (g.W.Write.contents l.initial.out))
+
+abbrev pub decreases-loop-call : goal.decreases-loop-call
+decreases-loop-call g l = bytes_left l.rest

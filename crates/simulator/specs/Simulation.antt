@@ -1,0 +1,58 @@
+-- From the bytes of a scenario to what its study leaves.
+use Rattle.std.specs.Prelude.{ℕ, List, [], Ok, Err, Result, length, replicate, cond, ◌==◌}
+use Rattle.memory.specs.Meaning.{MemoryMeaning}
+use Rattle.protocol.specs.declared.call.Call.{Call}
+use Rattle.protocol.specs.declared.refusal.Refusal.{Refusal}
+use Rattle.protocol.specs.declared.weights.Prices.{Prices}
+use Rattle.protocol.specs.Prices.{weighing, none}
+use Rattle.row.specs.Cores.{CoreMeaning}
+use Rattle.study.specs.declared.quote.Quote.{Quote}
+use Rattle.study.specs.Run.{RunMeaning}
+use Rattle.study.specs.Opening.{started}
+use Rattle.study.specs.Play.{played}
+use Rattle.study.specs.Settling.{quote_of}
+use Rattle.scenario.specs.declared.fault.Fault.{Fault}
+use Rattle.scenario.specs.declared.fault.Fault.TheVariants.{Study}
+use Rattle.scenario.specs.Reading.{Read}
+use Rattle.scenario.specs.Texts.{unplaced, table_after}
+
+abbrev pub as_study : {A : Type 0} → Result A Refusal → Result A Fault
+as_study (Ok r) = Ok r
+as_study (Err e) = Err (Study e)
+
+-- a text that was read asks for a study of these cores and this memory, which is weighed and opened
+abbrev pub opened : Result Read Fault → List CoreMeaning → MemoryMeaning → Result RunMeaning Fault
+opened (Ok t) cs m = as_study (started (weighing t.prices) cs m)
+opened (Err e) cs m = Err e
+
+abbrev pub calls_of : Result Read Fault → List Call
+calls_of (Ok t) = t.calls
+calls_of (Err e) = []
+
+abbrev pub prices_of : Result Read Fault → Prices
+prices_of (Ok t) = t.prices
+prices_of (Err e) = none
+
+-- what the study comes to
+abbrev pub quoted : Result RunMeaning Fault → List Call → Result Quote Fault
+quoted (Ok r) ks = Ok (quote_of (played r ks).tally)
+quoted (Err e) ks = Err e
+
+-- cores and memory afterwards: as the run leaves them, or untouched
+abbrev pub cores_after : Result RunMeaning Fault → List CoreMeaning → List Call → List CoreMeaning
+cores_after (Ok r) cs ks = (played r ks).cores
+cores_after (Err e) cs ks = cs
+
+abbrev pub memory_after : Result RunMeaning Fault → MemoryMeaning → List Call → MemoryMeaning
+memory_after (Ok r) m ks = (played r ks).memory
+memory_after (Err e) m ks = m
+
+-- a layout once its study was opened: as it was, or all unplaced
+abbrev pub layout_after : Result RunMeaning Fault → List ℕ → List ℕ
+layout_after (Ok r) layout = layout
+layout_after (Err e) layout = replicate (length layout) 65536
+
+-- the layout table afterwards: the placements of a study that was opened, or nothing placed; one of another length is left
+abbrev pub table_left : Result RunMeaning Fault → List ℕ → Result Read Fault → List ℕ
+table_left (Ok r) table t = table_after table t
+table_left (Err e) table t = cond (length table == 256) unplaced table

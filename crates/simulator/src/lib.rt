@@ -1,0 +1,9 @@
+//! A scenario, from its bytes to its report.
+#![tactic(auto)]
+
+mod begin;
+mod output;
+
+
+mod play;
+pub mod simulate;

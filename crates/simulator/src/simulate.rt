@@ -1,0 +1,99 @@
+//! The whole way, from the bytes of a scenario to those of its report.
+ghost use Rattle.std.specs.Prelude.{◌≡◌, Ok, OnOk, IfErr};
+ghost use Rattle.std.specs.Io.KnownBytes.{Appends};
+ghost use Rattle.study.specs.Warrant.{Warranted};
+ghost use Rattle.scenario.specs.Reading.{read_as};
+ghost use Rattle.scenario.specs.Texts.{scenario_of};
+ghost use Rattle.simulator.specs.Report.{report_of};
+ghost use Rattle.simulator.specs.Simulation.{opened, calls_of, prices_of, quoted, cores_after, memory_after, layout_after, table_left};
+
+use crate::begin::begin;
+use crate::output::write;
+use crate::play::play;
+use memory::Memory;
+use report::line::Line;
+use row::Row;
+use scenario::fault::Fault;
+use scenario::layout::unplace;
+use scenario::reader::Text;
+use scenario::texts::scenario;
+use std::io;
+use std::io::Write;
+use study::quote::Quote;
+
+/// What a scenario came to: the row and the memory as they are then, the quote or the fault, and whether the report was written.
+#[derive(Drop)]
+pub struct Simulated<R, M> {
+    pub row: R,
+    pub memory: M,
+    pub outcome: Result<Quote, Fault>,
+    pub written: io::Result<()>,
+}
+
+// The study that a text asks for, played and told.
+fn study<R: Row, M: Memory, W: Write>(
+    text: Text<'_>,
+    layout: &mut [u32],
+    row: R,
+    memory: M,
+    report: &mut W,
+) -> Simulated<R, M>
+    ensures outcome { result.outcome ≡ quoted (opened (read_as (Ok text.entry) layout.old) (R.cores row) (M.meaning memory)) (calls_of (read_as (Ok text.entry) layout.old)) }
+    ensures row { R.cores result.row ≡ cores_after (opened (read_as (Ok text.entry) layout.old) (R.cores row) (M.meaning memory)) (R.cores row) (calls_of (read_as (Ok text.entry) layout.old)) }
+    ensures memory { M.meaning result.memory ≡ memory_after (opened (read_as (Ok text.entry) layout.old) (R.cores row) (M.meaning memory)) (M.meaning memory) (calls_of (read_as (Ok text.entry) layout.old)) }
+    ensures back { IfErr result.outcome (λ _. (result.row ≡ row) × (result.memory ≡ memory)) }
+    ensures table { layout.new ≡ layout_after (opened (read_as (Ok text.entry) layout.old) (R.cores row) (M.meaning memory)) layout.old }
+    ensures report { OnOk result.written (Appends (W.contents report.old) (W.contents report.new) (report_of (opened (read_as (Ok text.entry) layout.old) (R.cores row) (M.meaning memory)) (calls_of (read_as (Ok text.entry) layout.old)))) }
+    ensures warrant { OnOk result.outcome (Warranted (R.cores row) (M.meaning memory) (prices_of (read_as (Ok text.entry) layout.old))) }
+{
+    let mut run = match begin(text.prices, row, memory) {
+        Ok(run) => run,
+        Err(refused) => {
+            unplace(layout);
+            let fault = Fault::from(refused.refusal);
+            return Simulated {
+                row: refused.row,
+                memory: refused.memory,
+                outcome: Err(fault),
+                written: write(report, Ok(()), &Line::of_fault(fault)),
+            };
+        }
+    };
+    let written = play(&mut run, text.steps, layout, report);
+    let settled = run.settle();
+    let written = write(report, written, &Line::of_quote(&settled.quote));
+    Simulated {
+        row: settled.row,
+        memory: settled.memory,
+        outcome: Ok(settled.quote),
+        written,
+    }
+}
+
+/// Reads a scenario, plays its study on this row and this memory, and writes the report. A scenario with a fault leaves the
+/// layout unplaced, and touches neither row nor memory. All steps are played even where the report cannot be written.
+pub fn simulate<R: Row, M: Memory, W: Write>(
+    text: &[u8],
+    layout: &mut [u32],
+    row: R,
+    memory: M,
+    report: &mut W,
+) -> Simulated<R, M>
+    ensures outcome { result.outcome ≡ quoted (opened (scenario_of layout.old text.now) (R.cores row) (M.meaning memory)) (calls_of (scenario_of layout.old text.now)) }
+    ensures row { R.cores result.row ≡ cores_after (opened (scenario_of layout.old text.now) (R.cores row) (M.meaning memory)) (R.cores row) (calls_of (scenario_of layout.old text.now)) }
+    ensures memory { M.meaning result.memory ≡ memory_after (opened (scenario_of layout.old text.now) (R.cores row) (M.meaning memory)) (M.meaning memory) (calls_of (scenario_of layout.old text.now)) }
+    ensures back { IfErr result.outcome (λ _. (result.row ≡ row) × (result.memory ≡ memory)) }
+    ensures table { layout.new ≡ table_left (opened (scenario_of layout.old text.now) (R.cores row) (M.meaning memory)) layout.old (scenario_of layout.old text.now) }
+    ensures report { OnOk result.written (Appends (W.contents report.old) (W.contents report.new) (report_of (opened (scenario_of layout.old text.now) (R.cores row) (M.meaning memory)) (calls_of (scenario_of layout.old text.now)))) }
+    ensures warrant { OnOk result.outcome (Warranted (R.cores row) (M.meaning memory) (prices_of (scenario_of layout.old text.now))) }
+{
+    match scenario(text, layout) {
+        Ok(read) => study(read, layout, row, memory, report),
+        Err(fault) => Simulated {
+            row,
+            memory,
+            outcome: Err(fault),
+            written: write(report, Ok(()), &Line::of_fault(fault)),
+        },
+    }
+}
