@@ -6,8 +6,7 @@ use Rattle.study.specs.declared.turn.Played.{Played}
 use Rattle.study.specs.Run.{RunMeaning}
 use Rattle.study.specs.Step.{step}
 use Rattle.study.specs.Play.{played_of, played, history}
-use Rattle.report.specs.Lines.{step_line}
-use Rattle.simulator.specs.Report.{turn_lines}
+use Rattle.simulator.specs.Report.{Form, turn_lines}
 
 -- ---- bytes that a writer is known to hold
 
@@ -32,30 +31,30 @@ on_one (Err e) p f = tt
 
 -- ---- from the run r with the calls ks to come, where step n is the next, as from the run r₀ with the calls ks₀
 
-pub record Told (r r₀ : RunMeaning) (ks ks₀ : List Call) (n : ℕ) (c c₀ : Option (List ℕ)) : Type 0 where
+pub record Told (f : Form) (r r₀ : RunMeaning) (ks ks₀ : List Call) (n : ℕ) (c c₀ : Option (List ℕ)) : Type 0 where
   done : List ℕ
   written : Appends c₀ c done
-  rest : done ++ turn_lines n (history r ks) ≡ turn_lines 1 (history r₀ ks₀)
+  rest : done ++ turn_lines f n (history r ks) ≡ turn_lines f 1 (history r₀ ks₀)
 
-pub told_none : (r : RunMeaning) (ks : List Call) (c : Option (List ℕ)) → Told r r ks ks 1 c c
-told_none r ks c = record { done = []; written = appends_none c; rest = refl }
+pub told_none : (f : Form) (r : RunMeaning) (ks : List Call) (c : Option (List ℕ)) → Told f r r ks ks 1 c c
+told_none f r ks c = record { done = []; written = appends_none c; rest = refl }
 
 module _ (r r' r₀ : RunMeaning) (k : Call) (ks ks' ks₀ : List Call) (next : ks ≡ k ∷ ks') (run : r' ≡ (step r k).run) where
   pub played_on : played r ks ≡ played r₀ ks₀ → played r' ks' ≡ played r₀ ks₀
   unfolding played
   played_on e = ap (λ x. played x ks') run ∙ sym (ap (played r) next) ∙ e
 
-  pub told_on : (n : ℕ) (c c' c₀ : Option (List ℕ)) (p : Played) (line : List ℕ) → p ≡ played_of r k → line ≡ step_line n p
-      → Told r r₀ ks ks₀ n c c₀ → Appends c c' line → Told r' r₀ ks' ks₀ (n + 1) c' c₀
+  pub told_on : (f : Form) (n : ℕ) (c c' c₀ : Option (List ℕ)) (p : Played) (line : List ℕ) → p ≡ played_of r k → line ≡ f.turn n p
+      → Told f r r₀ ks ks₀ n c c₀ → Appends c c' line → Told f r' r₀ ks' ks₀ (n + 1) c' c₀
   unfolding history turn_lines
-  told_on n c c' c₀ p line is of t w =
-      let l : line ≡ step_line n (played_of r k) = of ∙ ap (step_line n) is in
+  told_on f n c c' c₀ p line is of t w =
+      let l : line ≡ f.turn n (played_of r k) = of ∙ ap (f.turn n) is in
       record {
         done = t.done ++ line;
         written = appends_both c₀ c c' t.done line t.written w;
-        rest = append_assoc t.done line (turn_lines (n + 1) (history r' ks'))
-            ∙ (λ j. t.done ++ (l j ++ turn_lines (n + 1) (history (run j) ks')))
-            ∙ ap (λ x. t.done ++ turn_lines n (history r x)) (sym next)
+        rest = append_assoc t.done line (turn_lines f (n + 1) (history r' ks'))
+            ∙ (λ j. t.done ++ (l j ++ turn_lines f (n + 1) (history (run j) ks')))
+            ∙ ap (λ x. t.done ++ turn_lines f n (history r x)) (sym next)
             ∙ t.rest;
       }
 
@@ -64,6 +63,6 @@ module _ (r r₀ : RunMeaning) (ks ks₀ : List Call) (none : ks ≡ []) where
   unfolding played
   played_all e = sym (ap (played r) none) ∙ e
 
-  pub told_all : (n : ℕ) (c c₀ : Option (List ℕ)) → Told r r₀ ks ks₀ n c c₀ → Appends c₀ c (turn_lines 1 (history r₀ ks₀))
+  pub told_all : (f : Form) (n : ℕ) (c c₀ : Option (List ℕ)) → Told f r r₀ ks ks₀ n c c₀ → Appends c₀ c (turn_lines f 1 (history r₀ ks₀))
   unfolding history turn_lines
-  told_all n c c₀ t = subst (Appends c₀ c) (sym (append-nil t.done) ∙ ap (λ x. t.done ++ turn_lines n (history r x)) (sym none) ∙ t.rest) t.written
+  told_all f n c c₀ t = subst (Appends c₀ c) (sym (append-nil t.done) ∙ ap (λ x. t.done ++ turn_lines f n (history r x)) (sym none) ∙ t.rest) t.written

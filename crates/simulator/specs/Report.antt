@@ -1,6 +1,7 @@
--- The report of a study that a scenario asks for.
+-- The report of a study that a text asks for.
 use Rattle.std.specs.Prelude.{ℕ, ◌+◌, List, [], ◌∷◌, ◌++◌, Some, None, Ok, Err, Option, Result}
 use Rattle.protocol.specs.declared.call.Call.{Call}
+use Rattle.study.specs.declared.quote.Quote.{Quote}
 use Rattle.study.specs.declared.turn.Played.{Played}
 use Rattle.study.specs.declared.turn.Turn.{Turn}
 use Rattle.study.specs.Run.{RunMeaning}
@@ -9,16 +10,30 @@ use Rattle.study.specs.Settling.{quote_of}
 use Rattle.scenario.specs.declared.fault.Fault.{Fault}
 use Rattle.report.specs.Lines.{step_line, quote_line, fault_line}
 
-abbrev pub line_of : ℕ → Option Played → List ℕ
-line_of n None = []
-line_of n (Some p) = step_line n p
+-- how a study is told: what is written of step n, of the quote, and of a fault
+pub record Form : Type 0 where
+  pub turn : ℕ → Played → List ℕ
+  pub quote : Quote → List ℕ
+  pub fault : Fault → List ℕ
 
--- a line for each turn, numbered from n
-unfoldable pub turn_lines : ℕ → List Turn → List ℕ
-turn_lines n [] = []
-turn_lines n (t ∷ ts) = line_of n t.played ++ turn_lines (n + 1) ts
+-- a report: a line for each step and for the quote, or one for the fault
+abbrev pub in_full : Form
+in_full = record { turn = step_line; quote = quote_line; fault = fault_line }
+
+abbrev pub text_of : Option (List ℕ) → List ℕ
+text_of None = []
+text_of (Some l) = l
+
+abbrev pub turn_of : Form → ℕ → Option Played → List ℕ
+turn_of f n None = []
+turn_of f n (Some p) = f.turn n p
+
+-- what is written of the turns, numbered from n
+unfoldable pub turn_lines : Form → ℕ → List Turn → List ℕ
+turn_lines f n [] = []
+turn_lines f n (t ∷ ts) = turn_of f n t.played ++ turn_lines f (n + 1) ts
 
 -- a run that was opened tells its history and its quote, and a fault tells itself
-abbrev pub report_of : Result RunMeaning Fault → List Call → List ℕ
-report_of (Ok r) ks = turn_lines 1 (history r ks) ++ quote_line (quote_of (played r ks).tally)
-report_of (Err e) ks = fault_line e
+abbrev pub report_of : Form → Result RunMeaning Fault → List Call → List ℕ
+report_of f (Ok r) ks = turn_lines f 1 (history r ks) ++ f.quote (quote_of (played r ks).tally)
+report_of f (Err e) ks = f.fault e

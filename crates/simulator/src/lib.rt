@@ -2,6 +2,7 @@
 #![tactic(auto)]
 
 mod begin;
+pub mod form;
 mod output;
 
 

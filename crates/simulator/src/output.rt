@@ -1,15 +1,24 @@
 //! Lines that are written as long as writing succeeds.
 ghost use Rattle.std.specs.Prelude.{◌≡◌, OnOk, IsOk};
 ghost use Rattle.std.specs.Io.KnownBytes.{Appends};
+ghost use Rattle.simulator.specs.Report.{text_of};
 
 use report::line::Line;
 use std::io;
 use std::io::Write;
 
-// Writes a line, unless an earlier one was not written.
-pub(crate) fn write<W: Write>(out: &mut W, written: io::Result<()>, line: &Line) -> io::Result<()>
-    ensures { OnOk result (IsOk written × Appends (W.contents out.old) (W.contents out.new) line.now) }
+// Writes a line, if there is one and unless an earlier one was not written.
+#[tactic(auto, using(crate::proofs::Telling::appends_none))]
+pub(crate) fn write<W: Write>(
+    out: &mut W,
+    written: io::Result<()>,
+    line: Option<Line>,
+) -> io::Result<()>
+    ensures { OnOk result (IsOk written × Appends (W.contents out.old) (W.contents out.new) (text_of line)) }
 {
     written?;
-    out.write_all(line.bytes())
+    match line {
+        Some(line) => out.write_all(line.bytes()),
+        None => Ok(()),
+    }
 }

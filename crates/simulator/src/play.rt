@@ -6,9 +6,9 @@ ghost use Rattle.study.specs.Stages.{run_of};
 ghost use Rattle.scenario.specs.Steps.{calls_in};
 ghost use Rattle.simulator.specs.Report.{turn_lines};
 
+use crate::form::Telling;
 use crate::output::write;
 use memory::Memory;
-use report::line::Line;
 use row::Row;
 use scenario::steps::Steps;
 use std::io;
@@ -16,21 +16,22 @@ use std::io::Write;
 use study::stages::Run;
 
 // Plays the steps, and writes a line for each. All are played, whether or not they can be written.
-pub(crate) fn play<R: Row, M: Memory, W: Write>(
+pub(crate) fn play<R: Row, M: Memory, W: Write, T: Telling>(
+    telling: &T,
     run: &mut Run<R, M>,
     steps: Steps<'_>,
     layout: &[u32],
     out: &mut W,
 ) -> io::Result<()>
     ensures run { run_of R.cores M.meaning run.new ≡ played (run_of R.cores M.meaning run.old) (calls_in layout.now steps.entry) }
-    ensures lines { OnOk result (Appends (W.contents out.old) (W.contents out.new) (turn_lines 1 (history (run_of R.cores M.meaning run.old) (calls_in layout.now steps.entry)))) }
+    ensures lines { OnOk result (Appends (W.contents out.old) (W.contents out.new) (turn_lines (T.form telling.now) 1 (history (run_of R.cores M.meaning run.old) (calls_in layout.now steps.entry)))) }
 {
     let mut written = Ok(());
     let mut rest = steps;
     let mut number: u32 = 1;
     while let Some((call, more)) = rest.first(layout) {
-        let line = Line::of_step(number, &run.take_turn(call));
-        written = write(out, written, &line);
+        let line = telling.turn(number, &run.take_turn(call));
+        written = write(out, written, line);
         rest = more;
         number += 1;
     }

@@ -4,14 +4,14 @@ ghost use Rattle.std.specs.Io.KnownBytes.{Appends};
 ghost use Rattle.study.specs.Warrant.{Warranted};
 ghost use Rattle.scenario.specs.Reading.{read_as};
 ghost use Rattle.scenario.specs.Texts.{scenario_of};
-ghost use Rattle.simulator.specs.Report.{report_of};
+ghost use Rattle.simulator.specs.Report.{in_full, report_of};
 ghost use Rattle.simulator.specs.Simulation.{opened, calls_of, prices_of, quoted, cores_after, memory_after, layout_after, table_left};
 
 use crate::begin::begin;
+use crate::form::{InFull, Telling};
 use crate::output::write;
 use crate::play::play;
 use memory::Memory;
-use report::line::Line;
 use row::Row;
 use scenario::fault::Fault;
 use scenario::layout::unplace;
@@ -31,7 +31,8 @@ pub struct Simulated<R, M> {
 }
 
 // The study that a text asks for, played and told.
-fn study<R: Row, M: Memory, W: Write>(
+fn study<R: Row, M: Memory, W: Write, T: Telling>(
+    telling: &T,
     text: Text<'_>,
     layout: &mut [u32],
     row: R,
@@ -43,7 +44,7 @@ fn study<R: Row, M: Memory, W: Write>(
     ensures memory { M.meaning result.memory ≡ memory_after (opened (read_as (Ok text.entry) layout.old) (R.cores row) (M.meaning memory)) (M.meaning memory) (calls_of (read_as (Ok text.entry) layout.old)) }
     ensures back { IfErr result.outcome (λ _. (result.row ≡ row) × (result.memory ≡ memory)) }
     ensures table { layout.new ≡ layout_after (opened (read_as (Ok text.entry) layout.old) (R.cores row) (M.meaning memory)) layout.old }
-    ensures report { OnOk result.written (Appends (W.contents report.old) (W.contents report.new) (report_of (opened (read_as (Ok text.entry) layout.old) (R.cores row) (M.meaning memory)) (calls_of (read_as (Ok text.entry) layout.old)))) }
+    ensures report { OnOk result.written (Appends (W.contents report.old) (W.contents report.new) (report_of (T.form telling.now) (opened (read_as (Ok text.entry) layout.old) (R.cores row) (M.meaning memory)) (calls_of (read_as (Ok text.entry) layout.old)))) }
     ensures warrant { OnOk result.outcome (Warranted (R.cores row) (M.meaning memory) (prices_of (read_as (Ok text.entry) layout.old))) }
 {
     let mut run = match begin(text.prices, row, memory) {
@@ -55,13 +56,13 @@ fn study<R: Row, M: Memory, W: Write>(
                 row: refused.row,
                 memory: refused.memory,
                 outcome: Err(fault),
-                written: write(report, Ok(()), &Line::of_fault(fault)),
+                written: write(report, Ok(()), Some(telling.fault(fault))),
             };
         }
     };
-    let written = play(&mut run, text.steps, layout, report);
+    let written = play(telling, &mut run, text.steps, layout, report);
     let settled = run.settle();
-    let written = write(report, written, &Line::of_quote(&settled.quote));
+    let written = write(report, written, Some(telling.quote(&settled.quote)));
     Simulated {
         row: settled.row,
         memory: settled.memory,
@@ -84,16 +85,16 @@ pub fn simulate<R: Row, M: Memory, W: Write>(
     ensures memory { M.meaning result.memory ≡ memory_after (opened (scenario_of layout.old text.now) (R.cores row) (M.meaning memory)) (M.meaning memory) (calls_of (scenario_of layout.old text.now)) }
     ensures back { IfErr result.outcome (λ _. (result.row ≡ row) × (result.memory ≡ memory)) }
     ensures table { layout.new ≡ table_left (opened (scenario_of layout.old text.now) (R.cores row) (M.meaning memory)) layout.old (scenario_of layout.old text.now) }
-    ensures report { OnOk result.written (Appends (W.contents report.old) (W.contents report.new) (report_of (opened (scenario_of layout.old text.now) (R.cores row) (M.meaning memory)) (calls_of (scenario_of layout.old text.now)))) }
+    ensures report { OnOk result.written (Appends (W.contents report.old) (W.contents report.new) (report_of in_full (opened (scenario_of layout.old text.now) (R.cores row) (M.meaning memory)) (calls_of (scenario_of layout.old text.now)))) }
     ensures warrant { OnOk result.outcome (Warranted (R.cores row) (M.meaning memory) (prices_of (scenario_of layout.old text.now))) }
 {
     match scenario(text, layout) {
-        Ok(read) => study(read, layout, row, memory, report),
+        Ok(read) => study(&InFull, read, layout, row, memory, report),
         Err(fault) => Simulated {
             row,
             memory,
             outcome: Err(fault),
-            written: write(report, Ok(()), &Line::of_fault(fault)),
+            written: write(report, Ok(()), Some(InFull.fault(fault))),
         },
     }
 }

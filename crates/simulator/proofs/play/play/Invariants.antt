@@ -13,7 +13,7 @@ invariant-loop-call g l =
     let ks₀ = calls_in l.layout l.steps in
     (l.number + bytes_left l.rest ≤ 65538)
     × (played r ks ≡ played r₀ ks₀)
-    × OnOk l.written (Told r r₀ ks ks₀ l.number (g.W.Write.contents l.out) (g.W.Write.contents l.initial.out))
+    × OnOk l.written (Told (g.T.Telling.form l.telling) r r₀ ks ks₀ l.number (g.W.Write.contents l.out) (g.W.Write.contents l.initial.out))
 
 abbrev pub decreases-loop-call : goal.decreases-loop-call
 decreases-loop-call g l = bytes_left l.rest

@@ -1,0 +1,46 @@
+//! How a study is told.
+ghost use Rattle.std.specs.Prelude.{◌≡◌};
+ghost use Rattle.simulator.specs.Report.{Form, in_full, text_of};
+
+use report::line::Line;
+use scenario::fault::Fault;
+use study::quote::Quote;
+use study::turn::Played;
+
+/// A way to tell a study, line by line.
+pub trait Telling {
+    // what is written of each step, of the quote and of a fault
+    ghost form: { Self → Form };
+
+    /// The line of a step, if it has one.
+    fn turn(&self, number: u32, played: &Played) -> Option<Line>
+        ensures { text_of result ≡ (form self.now).turn number played.now };
+
+    /// The line of the quote.
+    fn quote(&self, quote: &Quote) -> Line
+        ensures { result ≡ (form self.now).quote quote.now };
+
+    /// The line of a fault, in place of all others.
+    fn fault(&self, fault: Fault) -> Line
+        ensures { result ≡ (form self.now).fault fault };
+}
+
+/// The telling of a report: a line for each step.
+#[derive(Clone, Copy)]
+pub struct InFull;
+
+impl Telling for InFull {
+    ghost form = { λ _. in_full };
+
+    fn turn(&self, number: u32, played: &Played) -> Option<Line> {
+        Some(Line::of_step(number, played))
+    }
+
+    fn quote(&self, quote: &Quote) -> Line {
+        Line::of_quote(quote)
+    }
+
+    fn fault(&self, fault: Fault) -> Line {
+        Line::of_fault(fault)
+    }
+}
