@@ -1,10 +1,10 @@
 -- A line reads back as the fields that were written.
-use Rattle.std.proofs.Common.{◌≡◌, ℕ, ◌+◌, ◌-◌, ◌*◌, ◌^◌, ◌<◌, ◌≤◌, Bool, true, ◌&&◌, ltb, List, [], ◌∷◌, ◌++◌, map, length, decimal, Some, None, Option, refl, ap, ◌∙◌, arith, rules, append-nil}
+use Rattle.std.proofs.Common.{◌≡◌, ℕ, ◌+◌, ◌-◌, ◌*◌, ◌^◌, ◌<◌, ◌≤◌, Bool, true, ◌&&◌, ltb, List, [], ◌∷◌, ◌++◌, map, length, decimal, Some, refl, ap, ◌∙◌, arith, rules, append-nil}
 use Rattle.std.specs.Str.{all_ascii_digits}
 use Rattle.std.proofs.lemmas.Bool.Decides.{nat_tests}
 use Rattle.std.proofs.lemmas.Str.Parse.{IsNumeralModel, numerals_by_fold}
 use Rattle.std.proofs.lemmas.Fmt.{digits_decimal, digits_value-decimal, decimal_nonempty}
-use Rattle.fields.specs.Parts.{parts}
+use Rattle.fields.specs.Parts.{onto, parts}
 use Rattle.report.specs.Lines.{row}
 use Rattle.report.specs.Reading.{Field, Number, Text, number_after, field_of, fields_of, read_back}
 
@@ -49,6 +49,32 @@ through sep (b ∷ bs) rest p ps h u e = grind (arith, nat_tests, through sep bs
 
 -- ---- lines
 
+-- a text of one line
+opened : (ps : List (List ℕ)) (fs : List Field) → fields_of ps ≡ Some fs → (line : List ℕ) × (ps ≡ line ∷ [] ∷ []) × (map field_of (parts 9 line) ≡ fs)
+opened [] fs e = absurd (cc)
+opened (l ∷ []) fs e = absurd (cc)
+opened (l ∷ [] ∷ []) fs e = (l, refl, cc)
+opened (l ∷ [] ∷ p ∷ ps) fs e = absurd (cc)
+opened (l ∷ (b ∷ bs) ∷ ps) fs e = absurd (cc)
+
+-- a field alone on its line
+alone : (f : List ℕ) → unparted f ≡ true → read_back (f ++ 10 ∷ []) ≡ Some (field_of f ∷ [])
+unfolding read_back parts
+alone f u = rw (through 10 f (10 ∷ []) [] ([] ∷ []) (omega arith) u refl, through 9 f [] [] [] (omega arith) u refl, append-nil f) refl
+
+-- a field and a tab before a line
+joined : (f text line : List ℕ) (fs : List Field) → unparted f ≡ true → parts 10 text ≡ line ∷ [] ∷ [] → map field_of (parts 9 line) ≡ fs → read_back (f ++ 9 ∷ text) ≡ Some (field_of f ∷ fs)
+unfolding read_back parts
+joined f text line fs u e r =
+    ap fields_of (through 10 f (9 ∷ text) (9 ∷ line) ([] ∷ []) (omega arith) u (ap (onto 9) e))
+    ∙ rw (through 9 f (9 ∷ line) [] (parts 9 line) (omega arith) u refl, append-nil f, r) refl
+
+before : (f text : List ℕ) (fs : List Field) → unparted f ≡ true → read_back text ≡ Some fs → read_back (f ++ 9 ∷ text) ≡ Some (field_of f ∷ fs)
+unfolding read_back
+before f text fs u e =
+    let o = opened (parts 10 text) fs e in
+    joined f text o.0 fs u o.1 o.2
+
 -- what is written for a field
 abbrev pub written : Field → List ℕ
 written (Number n) = decimal n
@@ -67,24 +93,9 @@ plain : (f : Field) → IsPlain f → (unparted (written f) ≡ true) × (field_
 plain (Number n) h = (unparted_digits (decimal n) (digits_decimal own n h), number n h)
 plain (Text bs) h = h
 
--- the line without its line feed
-abbrev body : Field → List Field → List ℕ
-body f [] = written f ++ []
-body f (g ∷ gs) = written f ++ 9 ∷ body g gs
-
-line : (f : Field) (fs : List Field) → ArePlain (f ∷ fs) → parts 10 (row (map written (f ∷ fs))) ≡ body f fs ∷ [] ∷ []
-unfolding parts
-line f [] h = through 10 (written f) (10 ∷ []) [] ([] ∷ []) (omega arith) (plain f h.0).0 refl
-line f (g ∷ gs) h = through 10 (written f) (9 ∷ row (map written (g ∷ gs))) (9 ∷ body g gs) ([] ∷ []) (omega arith) (plain f h.0).0 (rw (line g gs h.1) refl)
-
-fields : (f : Field) (fs : List Field) → ArePlain (f ∷ fs) → map field_of (parts 9 (body f fs)) ≡ f ∷ fs
-unfolding parts
-fields f [] h =
-    ap (map field_of) (through 9 (written f) [] [] [] (omega arith) (plain f h.0).0 refl) ∙ rw (append-nil (written f), (plain f h.0).1) refl
-fields f (g ∷ gs) h =
-    ap (map field_of) (through 9 (written f) (9 ∷ body g gs) [] (parts 9 (body g gs)) (omega arith) (plain f h.0).0 refl)
-    ∙ rw (append-nil (written f), (plain f h.0).1, fields g gs h.1) refl
+pub one_more : (f : Field) (text : List ℕ) (fs : List Field) → IsPlain f → read_back text ≡ Some fs → read_back (written f ++ 9 ∷ text) ≡ Some (f ∷ fs)
+one_more f text fs h e = before (written f) text fs (plain f h).0 e ∙ ap (λ g. Some (g ∷ fs)) (plain f h).1
 
 pub reads_back : (f : Field) (fs : List Field) → ArePlain (f ∷ fs) → read_back (row (map written (f ∷ fs))) ≡ Some (f ∷ fs)
-unfolding read_back
-reads_back f fs h = ap fields_of (line f fs h) ∙ ap Some (fields f fs h)
+reads_back f [] h = alone (written f) (plain f h.0).0 ∙ ap (λ g. Some (g ∷ [])) (plain f h.0).1
+reads_back f (g ∷ gs) h = one_more f (row (map written (g ∷ gs))) (g ∷ gs) h.0 (reads_back g gs h.1)

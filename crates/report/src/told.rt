@@ -3,7 +3,7 @@ ghost use Rattle.std.specs.Prelude.{◌≡◌, ◌+◌, ◌^◌, ◌<◌, ◌≤
 ghost use Rattle.study.specs.Quotes.{figure_text};
 ghost use Rattle.scenario.specs.Faults.{told_of};
 ghost use Rattle.report.specs.Lines.{row, step_line, quote_line, told_fields, fault_line};
-ghost use Rattle.report.specs.Reading.{read_back, step_told, quote_told, fault_told};
+ghost use Rattle.report.specs.Reading.{read_back, step_read, quote_read, told_read, fault_read};
 
 use crate::line::Line;
 use fields::{LINE_FEED, TAB};
@@ -17,7 +17,7 @@ impl Line {
     #[tactic(auto, using(crate::proofs::Readings::step))]
     pub fn of_step(number: u32, played: &Played) -> Line
         ensures text { result ≡ step_line number played.now }
-        ensures reads_back { read_back result ≡ Some (step_told number played.now) }
+        ensures reads_back { read_back result ≡ Some (step_read number played.now) }
     {
         let mut line = Line::empty();
         line.prepend_number(played.total, LINE_FEED);
@@ -31,7 +31,7 @@ impl Line {
     #[tactic(auto, using(crate::proofs::Readings::quote))]
     pub fn of_quote(quote: &Quote) -> Line
         ensures text { result ≡ quote_line quote.now }
-        ensures reads_back { read_back result ≡ Some (quote_told quote.now) }
+        ensures reads_back { read_back result ≡ Some (quote_read quote.now) }
         ensures short { length result ≤ 69 }
     {
         let mut line = Line::empty();
@@ -46,7 +46,7 @@ impl Line {
     #[tactic(auto, using(crate::proofs::Readings::fault))]
     pub fn of_fault(fault: Fault) -> Line
         ensures text { result ≡ fault_line fault }
-        ensures reads_back { read_back result ≡ Some (fault_told (told_of fault)) }
+        ensures reads_back { read_back result ≡ Some (fault_read fault) }
     {
         let mut line = Line::of_told(fault);
         line.prepend_text(b"fault", TAB);
@@ -67,8 +67,10 @@ impl Line {
     }
 
     // The fields of a fault without the word before them.
+    #[tactic(auto, using(crate::proofs::Readings::told))]
     pub(crate) fn of_told(fault: Fault) -> Line
         ensures text { result ≡ row (told_fields (told_of fault)) }
+        ensures reads_back { read_back result ≡ Some (told_read (told_of fault)) }
         ensures short { length result ≤ 70 }
     {
         let told = Told::from(fault);
