@@ -1,1 +1,3 @@
 pub mod Rooms
+pub mod Reading
+pub mod Readings

@@ -1,5 +1,5 @@
 -- The lines of a paired study, byte for byte.
-use Rattle.std.specs.Prelude.{ℕ, ◌+◌, ◌-◌, cond, List, [], ◌∷◌, codes, decimal, Some, None, Option, nat_lt}
+use Rattle.std.specs.Prelude.{ℕ, ◌+◌, ◌-◌, cond, List, [], ◌∷◌, codes, decimal, Some, Option, nat_lt}
 use Rattle.protocol.specs.declared.refusal.Refusal.{Refusal}
 use Rattle.protocol.specs.Refusals.{refusal_number}
 use Rattle.study.specs.declared.quote.Quote.{Quote}
@@ -10,6 +10,7 @@ use Rattle.report.specs.declared.paired.Side.TheVariants.{A, B}
 use Rattle.report.specs.declared.paired.File.{File}
 use Rattle.report.specs.declared.paired.File.TheVariants.{Placement, Schedule}
 use Rattle.report.specs.Lines.{row, quote_fields, told_fields}
+use Rattle.report.specs.Reading.{Field, Number, Text, quote_read, told_read}
 
 abbrev pub side_spelling : Side → List ℕ
 side_spelling A = codes "a"
@@ -19,8 +20,11 @@ abbrev pub file_spelling : File → List ℕ
 file_spelling Placement = codes "placement"
 file_spelling Schedule = codes "schedule"
 
+abbrev pub refusal_fields : ℕ → Refusal → List (List ℕ)
+refusal_fields step r = codes "refused" ∷ decimal step ∷ decimal (refusal_number r) ∷ []
+
 abbrev pub refused_line : Side → ℕ → Refusal → List ℕ
-refused_line s step r = row (side_spelling s ∷ codes "refused" ∷ decimal step ∷ decimal (refusal_number r) ∷ [])
+refused_line s step r = row (side_spelling s ∷ refusal_fields step r)
 
 abbrev pub side_quote_line : Side → Quote → List ℕ
 side_quote_line s q = row (side_spelling s ∷ quote_fields q)
@@ -39,3 +43,20 @@ difference a b = (a - b) + (b - a)
 abbrev pub difference_line : Option ℕ → Option ℕ → List ℕ
 difference_line (Some a) (Some b) = row (codes "difference" ∷ decimal (difference a b) ∷ cheaper a b ∷ [])
 difference_line _ _ = row (codes "difference" ∷ codes "-" ∷ codes "-" ∷ [])
+
+-- what each line reads back as
+abbrev pub refusal_read : ℕ → Refusal → List Field
+refusal_read step r = Text (codes "refused") ∷ Number step ∷ Number (refusal_number r) ∷ []
+
+abbrev pub refused_read : Side → ℕ → Refusal → List Field
+refused_read s step r = Text (side_spelling s) ∷ refusal_read step r
+
+abbrev pub side_quote_read : Side → Quote → List Field
+side_quote_read s q = Text (side_spelling s) ∷ quote_read q
+
+abbrev pub side_fault_read : Side → File → Fault → List Field
+side_fault_read s file f = Text (side_spelling s) ∷ Text (codes "fault") ∷ Text (file_spelling file) ∷ told_read (told_of f)
+
+abbrev pub difference_read : Option ℕ → Option ℕ → List Field
+difference_read (Some a) (Some b) = Text (codes "difference") ∷ Number (difference a b) ∷ Text (cheaper a b) ∷ []
+difference_read _ _ = Text (codes "difference") ∷ Text (codes "-") ∷ Text (codes "-") ∷ []

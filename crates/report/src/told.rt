@@ -1,7 +1,9 @@
 //! The lines of a report: what became of a step, a quote, a fault.
-ghost use Rattle.std.specs.Prelude.{◌≡◌, ◌≤◌, length};
+ghost use Rattle.std.specs.Prelude.{◌≡◌, ◌+◌, ◌^◌, ◌<◌, ◌≤◌, ◌∷◌, ◌++◌, length, Some, IfSome};
+ghost use Rattle.study.specs.Quotes.{figure_text};
 ghost use Rattle.scenario.specs.Faults.{told_of};
 ghost use Rattle.report.specs.Lines.{row, step_line, quote_line, told_fields, fault_line};
+ghost use Rattle.report.specs.Reading.{read_back, step_read, quote_read, told_read, fault_read};
 
 use crate::line::Line;
 use fields::{LINE_FEED, TAB};
@@ -12,8 +14,10 @@ use study::turn::Played;
 
 impl Line {
     /// What became of a step: its number, the word, the value, and the total after it.
+    #[tactic(auto, using(crate::proofs::Readings::step))]
     pub fn of_step(number: u32, played: &Played) -> Line
         ensures text { result ≡ step_line number played.now }
+        ensures reads_back { read_back result ≡ Some (step_read number played.now) }
     {
         let mut line = Line::empty();
         line.prepend_number(played.total, LINE_FEED);
@@ -24,15 +28,14 @@ impl Line {
     }
 
     /// A quote: accesses, total, and the figure, or `-` where there is none.
+    #[tactic(auto, using(crate::proofs::Readings::quote))]
     pub fn of_quote(quote: &Quote) -> Line
         ensures text { result ≡ quote_line quote.now }
+        ensures reads_back { read_back result ≡ Some (quote_read quote.now) }
         ensures short { length result ≤ 69 }
     {
         let mut line = Line::empty();
-        match quote.figure {
-            Some(figure) => line.prepend_number(figure, LINE_FEED),
-            None => line.prepend_text(b"-", LINE_FEED),
-        }
+        line.prepend_figure(quote.figure, LINE_FEED);
         line.prepend_number(quote.total, TAB);
         line.prepend_number(u64::from(quote.accesses), TAB);
         line.prepend_text(b"quote", TAB);
@@ -40,17 +43,34 @@ impl Line {
     }
 
     /// A fault: its layer, line, field and number.
+    #[tactic(auto, using(crate::proofs::Readings::fault))]
     pub fn of_fault(fault: Fault) -> Line
         ensures text { result ≡ fault_line fault }
+        ensures reads_back { read_back result ≡ Some (fault_read fault) }
     {
         let mut line = Line::of_told(fault);
         line.prepend_text(b"fault", TAB);
         line
     }
 
+    // Puts a figure, or `-` where there is none, and the byte that ends it before the line.
+    fn prepend_figure(&mut self, figure: Option<u64>, end: u8)
+        requires { length self.old + 21 ≤ 96 }
+        ensures text { self.new ≡ figure_text figure ++ end ∷ self.old }
+        ensures length { length self.new ≤ length self.old + 21 }
+        ensures fits { IfSome figure (λ f. f < 2 ^ 64) }
+    {
+        match figure {
+            Some(figure) => self.prepend_number(figure, end),
+            None => self.prepend_text(b"-", end),
+        }
+    }
+
     // The fields of a fault without the word before them.
+    #[tactic(auto, using(crate::proofs::Readings::told))]
     pub(crate) fn of_told(fault: Fault) -> Line
         ensures text { result ≡ row (told_fields (told_of fault)) }
+        ensures reads_back { read_back result ≡ Some (told_read (told_of fault)) }
         ensures short { length result ≤ 70 }
     {
         let told = Told::from(fault);
