@@ -1,0 +1,60 @@
+//! mcsim: plays a scenario on two cores, each with a direct tier of 2 lines on a set-associative tier of 2 sets of 2 ways, over a
+//! flat memory of 16 blocks, and writes the report.
+#![tactic(auto)]
+
+use anyhow::anyhow;
+use machine::two_cores;
+use memory::cell::{Cell, State};
+use memory::flat::Flat;
+use scenario::layout::REFERENCES;
+use simulator::simulate::simulate;
+use std::env;
+use std::fs::File;
+use std::io::{BufWriter, Write};
+
+const HELP: &str = "mcsim: plays a scenario and writes its report
+
+usage: mcsim [FILE]
+
+The scenario is read from FILE, or from standard input. It is played on two cores, each with a
+direct tier of 2 lines on a set-associative tier of 2 sets of 2 ways, over a memory of 16 blocks.
+docs/SCENARIO.md tells the format of scenarios and reports.
+
+The exit status is 0 whenever a report was written, also that of a fault.";
+
+// Opening a study stores a stamp in every cell, so it makes no difference what these hold.
+const CELL: Cell = Cell {
+    state: State::Stale,
+    stamp: 0,
+};
+
+fn report(rt: &HostRuntime, text: &[u8]) -> anyhow::Result<()> {
+    let mut layout = [0u32; REFERENCES];
+    let mut table = [CELL; 16];
+    let row = two_cores(rt.alloc())?;
+    let mut out = BufWriter::new(rt.alloc(), rt.stdout())?;
+    let simulated = simulate(text, &mut layout, row, Flat::over(&mut table), &mut out);
+    simulated.written?;
+    out.flush()?;
+    Ok(())
+}
+
+fn run(rt: &HostRuntime) -> anyhow::Result<()> {
+    let args: Vec<String> = env::args(rt)?.skip(1).collect(rt.alloc())?;
+    match args.as_slice() {
+        [] => report(rt, intake::text(rt.alloc(), rt.stdin())?.as_slice()),
+        [word] if word.as_str() == "--help" => {
+            println!(rt; "{HELP}")?;
+            Ok(())
+        }
+        [path] => {
+            let file = File::open(rt, path.as_str())?;
+            report(rt, intake::text(rt.alloc(), file)?.as_slice())
+        }
+        _ => Err(anyhow!("usage: mcsim [FILE]")),
+    }
+}
+
+fn main(rt: HostRuntime) -> anyhow::Result<()> {
+    run(&rt)
+}
