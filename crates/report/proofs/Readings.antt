@@ -12,10 +12,11 @@ use Rattle.scenario.specs.declared.fault.Layer.TheVariants.{Text as TextLayer, L
 use Rattle.scenario.specs.Faults.{spelling as layer_spelling}
 use Rattle.report.specs.declared.paired.Side.{Side}
 use Rattle.report.specs.declared.paired.Side.TheVariants.{A, B}
-use Rattle.report.specs.declared.paired.File.{File}
-use Rattle.report.specs.declared.paired.File.TheVariants.{Placement, Schedule}
+use Rattle.scenario.specs.declared.fault.File.{File}
+use Rattle.scenario.specs.declared.fault.File.TheVariants.{Placement, Schedule}
+use Rattle.scenario.specs.Faults.{file_spelling}
 use Rattle.report.specs.Lines.{row}
-use Rattle.report.specs.Pairs.{side_spelling, file_spelling, refusal_fields, refusal_read, cheaper, difference as figure_difference, difference_line, difference_read}
+use Rattle.report.specs.Pairs.{side_spelling, refusal_fields, refusal_read, cheaper, difference as figure_difference, difference_line, difference_read}
 use Rattle.report.specs.Reading.{Field, Number, Text, number_after, field_of, read_back, figure_read}
 use Rattle.report.proofs.Reading.{written, IsPlain, one_more, reads_back}
 

@@ -4,21 +4,16 @@ use Rattle.protocol.specs.declared.refusal.Refusal.{Refusal}
 use Rattle.protocol.specs.Refusals.{refusal_number}
 use Rattle.study.specs.declared.quote.Quote.{Quote}
 use Rattle.scenario.specs.declared.fault.Fault.{Fault}
-use Rattle.scenario.specs.Faults.{told_of}
+use Rattle.scenario.specs.Faults.{told_of, file_spelling}
 use Rattle.report.specs.declared.paired.Side.{Side}
 use Rattle.report.specs.declared.paired.Side.TheVariants.{A, B}
-use Rattle.report.specs.declared.paired.File.{File}
-use Rattle.report.specs.declared.paired.File.TheVariants.{Placement, Schedule}
+use Rattle.scenario.specs.declared.fault.File.{File}
 use Rattle.report.specs.Lines.{row, quote_fields, told_fields}
 use Rattle.report.specs.Reading.{Field, Number, Text, quote_read, told_read}
 
 abbrev pub side_spelling : Side → List ℕ
 side_spelling A = codes "a"
 side_spelling B = codes "b"
-
-abbrev pub file_spelling : File → List ℕ
-file_spelling Placement = codes "placement"
-file_spelling Schedule = codes "schedule"
 
 abbrev pub refusal_fields : ℕ → Refusal → List (List ℕ)
 refusal_fields step r = codes "refused" ∷ decimal step ∷ decimal (refusal_number r) ∷ []

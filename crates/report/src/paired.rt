@@ -1,13 +1,13 @@
 //! The lines of a paired study.
 ghost use Rattle.std.specs.Prelude.{◌≡◌, ◌≤◌, length, Some, None};
 ghost use Rattle.report.specs.Lines.{row};
-ghost use Rattle.report.specs.Pairs.{side_spelling, file_spelling, refusal_fields, refused_line, side_quote_line, side_fault_line, cheaper, difference_line, refusal_read, refused_read, side_quote_read, side_fault_read, difference_read};
+ghost use Rattle.report.specs.Pairs.{side_spelling, refusal_fields, refused_line, side_quote_line, side_fault_line, cheaper, difference_line, refusal_read, refused_read, side_quote_read, side_fault_read, difference_read};
 ghost use Rattle.report.specs.Reading.{read_back};
 
 use crate::line::Line;
 use fields::{LINE_FEED, TAB};
 use protocol::refusal::Refusal;
-use scenario::fault::Fault;
+use scenario::fault::{Fault, File};
 use study::quote::Quote;
 
 /// One of the two studies.
@@ -25,25 +25,6 @@ impl Side {
         match self {
             Side::A => b"a",
             Side::B => b"b",
-        }
-    }
-}
-
-/// One of the two texts that a study reads.
-#[derive(Clone, Copy)]
-pub enum File {
-    Placement,
-    Schedule,
-}
-
-impl File {
-    /// The file as a line spells it.
-    pub fn bytes(self) -> &'static [u8]
-        ensures { result.now ≡ file_spelling self }
-    {
-        match self {
-            File::Placement => b"placement",
-            File::Schedule => b"schedule",
         }
     }
 }

@@ -1,6 +1,8 @@
 -- The report of a study that a text asks for.
 use Rattle.std.specs.Prelude.{ℕ, ◌+◌, List, [], ◌∷◌, ◌++◌, Some, None, Ok, Err, Option, Result}
+use Rattle.protocol.specs.declared.answer.Answer.{Answer}
 use Rattle.protocol.specs.declared.call.Call.{Call}
+use Rattle.protocol.specs.declared.refusal.Refusal.{Refusal}
 use Rattle.study.specs.declared.quote.Quote.{Quote}
 use Rattle.study.specs.declared.turn.Played.{Played}
 use Rattle.study.specs.declared.turn.Turn.{Turn}
@@ -8,7 +10,10 @@ use Rattle.study.specs.Run.{RunMeaning}
 use Rattle.study.specs.Play.{played, history}
 use Rattle.study.specs.Settling.{quote_of}
 use Rattle.scenario.specs.declared.fault.Fault.{Fault}
+use Rattle.scenario.specs.declared.fault.File.TheVariants.{Schedule}
+use Rattle.report.specs.declared.paired.Side.{Side}
 use Rattle.report.specs.Lines.{step_line, quote_line, fault_line}
+use Rattle.report.specs.Pairs.{refused_line, side_quote_line, side_fault_line}
 
 -- how a study is told: what is written of step n, of the quote, and of a fault
 pub record Form : Type 0 where
@@ -19,6 +24,14 @@ pub record Form : Type 0 where
 -- a report: a line for each step and for the quote, or one for the fault
 abbrev pub in_full : Form
 in_full = record { turn = step_line; quote = quote_line; fault = fault_line }
+
+abbrev pub if_refused : Side → ℕ → Result Answer Refusal → List ℕ
+if_refused s n (Ok x) = []
+if_refused s n (Err e) = refused_line s n e
+
+-- one side of a paired study: a line for each step that was refused, and for the quote; or one for a fault of the schedule
+abbrev pub by_side : Side → Form
+by_side s = record { turn = λ n p. if_refused s n p.answer; quote = side_quote_line s; fault = side_fault_line s Schedule }
 
 abbrev pub text_of : Option (List ℕ) → List ℕ
 text_of None = []

@@ -25,9 +25,9 @@ abbrev pub opened : Result Read Fault → List CoreMeaning → MemoryMeaning →
 opened (Ok t) cs m = as_study (started (weighing t.prices) cs m)
 opened (Err e) cs m = Err e
 
-abbrev pub calls_of : Result Read Fault → List Call
-calls_of (Ok t) = t.calls
-calls_of (Err e) = []
+abbrev pub schedule_of : Result Read Fault → List Call
+schedule_of (Ok t) = t.calls
+schedule_of (Err e) = []
 
 abbrev pub prices_of : Result Read Fault → Prices
 prices_of (Ok t) = t.prices

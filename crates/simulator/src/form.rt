@@ -1,9 +1,10 @@
 //! How a study is told.
 ghost use Rattle.std.specs.Prelude.{◌≡◌};
-ghost use Rattle.simulator.specs.Report.{Form, in_full, text_of};
+ghost use Rattle.simulator.specs.Report.{Form, in_full, by_side, text_of};
 
 use report::line::Line;
-use scenario::fault::Fault;
+use report::paired::Side;
+use scenario::fault::{Fault, File};
 use study::quote::Quote;
 use study::turn::Played;
 
@@ -42,5 +43,25 @@ impl Telling for InFull {
 
     fn fault(&self, fault: Fault) -> Line {
         Line::of_fault(fault)
+    }
+}
+
+/// The telling of one side of a paired study: a line for each step that was refused.
+impl Telling for Side {
+    ghost form = { by_side };
+
+    fn turn(&self, number: u32, played: &Played) -> Option<Line> {
+        match played.answer {
+            Ok(_) => None,
+            Err(refusal) => Some(Line::of_refused(*self, number, refusal)),
+        }
+    }
+
+    fn quote(&self, quote: &Quote) -> Line {
+        Line::of_side_quote(*self, quote)
+    }
+
+    fn fault(&self, fault: Fault) -> Line {
+        Line::of_side_fault(*self, File::Schedule, fault)
     }
 }

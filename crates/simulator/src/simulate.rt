@@ -5,7 +5,7 @@ ghost use Rattle.study.specs.Warrant.{Warranted};
 ghost use Rattle.scenario.specs.Reading.{read_as};
 ghost use Rattle.scenario.specs.Texts.{scenario_of};
 ghost use Rattle.simulator.specs.Report.{in_full, report_of};
-ghost use Rattle.simulator.specs.Simulation.{opened, calls_of, prices_of, quoted, cores_after, memory_after, layout_after, table_left};
+ghost use Rattle.simulator.specs.Simulation.{opened, schedule_of, prices_of, quoted, cores_after, memory_after, layout_after, table_left};
 
 use crate::begin::begin;
 use crate::form::{InFull, Telling};
@@ -30,8 +30,8 @@ pub struct Simulated<R, M> {
     pub written: io::Result<()>,
 }
 
-// The study that a text asks for, played and told.
-fn study<R: Row, M: Memory, W: Write, T: Telling>(
+/// Plays the study that a text asks for, once it was read into a layout, on this row and this memory, and tells it.
+pub fn simulate_text<R: Row, M: Memory, W: Write, T: Telling>(
     telling: &T,
     text: Text<'_>,
     layout: &mut [u32],
@@ -39,12 +39,12 @@ fn study<R: Row, M: Memory, W: Write, T: Telling>(
     memory: M,
     report: &mut W,
 ) -> Simulated<R, M>
-    ensures outcome { result.outcome ≡ quoted (opened (read_as (Ok text.entry) layout.old) (R.cores row) (M.meaning memory)) (calls_of (read_as (Ok text.entry) layout.old)) }
-    ensures row { R.cores result.row ≡ cores_after (opened (read_as (Ok text.entry) layout.old) (R.cores row) (M.meaning memory)) (R.cores row) (calls_of (read_as (Ok text.entry) layout.old)) }
-    ensures memory { M.meaning result.memory ≡ memory_after (opened (read_as (Ok text.entry) layout.old) (R.cores row) (M.meaning memory)) (M.meaning memory) (calls_of (read_as (Ok text.entry) layout.old)) }
+    ensures outcome { result.outcome ≡ quoted (opened (read_as (Ok text.entry) layout.old) (R.cores row) (M.meaning memory)) (schedule_of (read_as (Ok text.entry) layout.old)) }
+    ensures row { R.cores result.row ≡ cores_after (opened (read_as (Ok text.entry) layout.old) (R.cores row) (M.meaning memory)) (R.cores row) (schedule_of (read_as (Ok text.entry) layout.old)) }
+    ensures memory { M.meaning result.memory ≡ memory_after (opened (read_as (Ok text.entry) layout.old) (R.cores row) (M.meaning memory)) (M.meaning memory) (schedule_of (read_as (Ok text.entry) layout.old)) }
     ensures back { IfErr result.outcome (λ _. (result.row ≡ row) × (result.memory ≡ memory)) }
     ensures table { layout.new ≡ layout_after (opened (read_as (Ok text.entry) layout.old) (R.cores row) (M.meaning memory)) layout.old }
-    ensures report { OnOk result.written (Appends (W.contents report.old) (W.contents report.new) (report_of (T.form telling.now) (opened (read_as (Ok text.entry) layout.old) (R.cores row) (M.meaning memory)) (calls_of (read_as (Ok text.entry) layout.old)))) }
+    ensures report { OnOk result.written (Appends (W.contents report.old) (W.contents report.new) (report_of (T.form telling.now) (opened (read_as (Ok text.entry) layout.old) (R.cores row) (M.meaning memory)) (schedule_of (read_as (Ok text.entry) layout.old)))) }
     ensures warrant { OnOk result.outcome (Warranted (R.cores row) (M.meaning memory) (prices_of (read_as (Ok text.entry) layout.old))) }
 {
     let mut run = match begin(text.prices, row, memory) {
@@ -80,16 +80,16 @@ pub fn simulate<R: Row, M: Memory, W: Write>(
     memory: M,
     report: &mut W,
 ) -> Simulated<R, M>
-    ensures outcome { result.outcome ≡ quoted (opened (scenario_of layout.old text.now) (R.cores row) (M.meaning memory)) (calls_of (scenario_of layout.old text.now)) }
-    ensures row { R.cores result.row ≡ cores_after (opened (scenario_of layout.old text.now) (R.cores row) (M.meaning memory)) (R.cores row) (calls_of (scenario_of layout.old text.now)) }
-    ensures memory { M.meaning result.memory ≡ memory_after (opened (scenario_of layout.old text.now) (R.cores row) (M.meaning memory)) (M.meaning memory) (calls_of (scenario_of layout.old text.now)) }
+    ensures outcome { result.outcome ≡ quoted (opened (scenario_of layout.old text.now) (R.cores row) (M.meaning memory)) (schedule_of (scenario_of layout.old text.now)) }
+    ensures row { R.cores result.row ≡ cores_after (opened (scenario_of layout.old text.now) (R.cores row) (M.meaning memory)) (R.cores row) (schedule_of (scenario_of layout.old text.now)) }
+    ensures memory { M.meaning result.memory ≡ memory_after (opened (scenario_of layout.old text.now) (R.cores row) (M.meaning memory)) (M.meaning memory) (schedule_of (scenario_of layout.old text.now)) }
     ensures back { IfErr result.outcome (λ _. (result.row ≡ row) × (result.memory ≡ memory)) }
     ensures table { layout.new ≡ table_left (opened (scenario_of layout.old text.now) (R.cores row) (M.meaning memory)) layout.old (scenario_of layout.old text.now) }
-    ensures report { OnOk result.written (Appends (W.contents report.old) (W.contents report.new) (report_of in_full (opened (scenario_of layout.old text.now) (R.cores row) (M.meaning memory)) (calls_of (scenario_of layout.old text.now)))) }
+    ensures report { OnOk result.written (Appends (W.contents report.old) (W.contents report.new) (report_of in_full (opened (scenario_of layout.old text.now) (R.cores row) (M.meaning memory)) (schedule_of (scenario_of layout.old text.now)))) }
     ensures warrant { OnOk result.outcome (Warranted (R.cores row) (M.meaning memory) (prices_of (scenario_of layout.old text.now))) }
 {
     match scenario(text, layout) {
-        Ok(read) => study(&InFull, read, layout, row, memory, report),
+        Ok(read) => simulate_text(&InFull, read, layout, row, memory, report),
         Err(fault) => Simulated {
             row,
             memory,
