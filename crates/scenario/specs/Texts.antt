@@ -15,26 +15,18 @@ abbrev pub unplaced : List ℕ
 unplaced = replicate 256 65536
 
 -- only a table of 256 entries is read into
-abbrev pub into_table : {E : Type 0} → (Fault → E) → List ℕ → Result Read E → Result Read E
-into_table at table r = cond (length table == 256) r (Err (at (Layout BadTable)))
-
 abbrev pub scenario_of : List ℕ → List ℕ → Result Read Fault
-scenario_of table bs = into_table (λ e. e) table (section_of Scenario unplaced bs)
+scenario_of table bs = cond (length table == 256) (section_of Scenario unplaced bs) (Err (Layout BadTable))
 
-abbrev pub fault_in : File → Fault → FileFault
-fault_in f e = record { file = f; fault = e }
+-- what the table holds then: the placements, or nothing placed; one that is not read into is left as it was
+abbrev pub table_after : List ℕ → Result Read Fault → List ℕ
+table_after table (Ok r) = r.layout
+table_after table (Err e) = cond (length table == 256) unplaced table
 
 abbrev pub in_file : File → Result Read Fault → Result Read FileFault
 in_file f (Ok r) = Ok r
-in_file f (Err e) = Err (fault_in f e)
+in_file f (Err e) = Err (record { file = f; fault = e })
 
 -- the placement p, and then the schedule s under it
-abbrev pub single_of : List ℕ → List ℕ → List ℕ → Result Read FileFault
-single_of table p s =
-    into_table (fault_in PlacementFile) table
-    (and_then (in_file PlacementFile (section_of Placement unplaced p)) (λ r. in_file ScheduleFile (section_of Schedule r.layout s)))
-
--- what a table holds then: the placements, or nothing placed; one that is not read into is left as it was
-abbrev pub table_after : {E : Type 0} → List ℕ → Result Read E → List ℕ
-table_after table (Ok r) = r.layout
-table_after table (Err e) = cond (length table == 256) unplaced table
+abbrev pub single_of : List ℕ → List ℕ → Result Read FileFault
+single_of p s = and_then (in_file PlacementFile (section_of Placement unplaced p)) (λ r. in_file ScheduleFile (section_of Schedule r.layout s))

@@ -82,7 +82,7 @@ impl File {
 }
 
 impl FileFault {
-    pub(crate) fn of(file: File, fault: Fault) -> FileFault
+    pub fn of(file: File, fault: Fault) -> FileFault
         ensures { result ≡ record { file = file; fault = fault } }
     {
         FileFault { file, fault }

@@ -1,25 +1,12 @@
 //! Scenarios, and the two texts of a single study.
-ghost use Rattle.std.specs.Prelude.{◌≡◌, cond, length, Ok, Err, ◌==◌};
-ghost use Rattle.scenario.specs.declared.fault.LayoutFault.TheVariants.{BadTable};
-ghost use Rattle.scenario.specs.Reading.{read_as};
-ghost use Rattle.scenario.specs.Texts.{unplaced, scenario_of, single_of, table_after};
+ghost use Rattle.std.specs.Prelude.{◌≡◌};
+ghost use Rattle.scenario.specs.Reading.{read_as, laid};
+ghost use Rattle.scenario.specs.Texts.{scenario_of, single_of, table_after};
 
 use crate::fault::{Fault, File, FileFault, LayoutFault};
 use crate::layout::{REFERENCES, unplace};
 use crate::reader::{Text, read};
 use records::keyword::Section;
-
-// Makes every reference unplaced, in a table that has an entry for each.
-fn cleared(layout: &mut [u32]) -> Result<(), LayoutFault>
-    ensures answer { result ≡ cond (length layout.old == 256) (Ok tt) (Err BadTable) }
-    ensures table { layout.new ≡ cond (length layout.old == 256) unplaced layout.old }
-{
-    if layout.len() != REFERENCES {
-        return Err(LayoutFault::BadTable);
-    }
-    unplace(layout);
-    Ok(())
-}
 
 /// Reads a scenario. Its placements stand in the table then; if it has a fault, nothing is placed, but for a table of the wrong
 /// length, which is left as it was.
@@ -27,23 +14,24 @@ pub fn scenario<'t>(text: &'t [u8], layout: &mut [u32]) -> Result<Text<'t>, Faul
     ensures answer { read_as result layout.new ≡ scenario_of layout.old text.now }
     ensures table { layout.new ≡ table_after layout.old (scenario_of layout.old text.now) }
 {
-    cleared(layout)?;
+    if layout.len() != REFERENCES {
+        return Err(Fault::from(LayoutFault::BadTable));
+    }
+    unplace(layout);
     read(text, layout, Section::Scenario)
 }
 
-/// Reads a placement, and a schedule under it. The table is left as by `scenario`.
+/// Reads a placement, and a schedule under it. The placements stand in the table then; if a text has a fault, nothing is placed.
 pub fn single<'t>(
     placement: &[u8],
     schedule: &'t [u8],
-    layout: &mut [u32],
+    layout: &mut [u32; REFERENCES],
 ) -> Result<Text<'t>, FileFault>
-    ensures answer { read_as result layout.new ≡ single_of layout.old placement.now schedule.now }
-    ensures table { layout.new ≡ table_after layout.old (single_of layout.old placement.now schedule.now) }
+    ensures answer { read_as result layout.new ≡ single_of placement.now schedule.now }
+    ensures table { layout.new ≡ laid 256 (single_of placement.now schedule.now) }
 {
-    cleared(layout).map_err(|fault| FileFault::of(File::Placement, Fault::from(fault)))?;
-    read(placement, layout, Section::Placement).map_err(|fault| FileFault::of(
-        File::Placement,
-        fault,
-    ))?;
+    unplace(layout);
+    read(placement, layout, Section::Placement)
+        .map_err(|fault| FileFault::of(File::Placement, fault))?;
     read(schedule, layout, Section::Schedule).map_err(|fault| FileFault::of(File::Schedule, fault))
 }

@@ -13,8 +13,13 @@ use Rattle.study.specs.Play.{played}
 use Rattle.study.specs.Settling.{quote_of}
 use Rattle.scenario.specs.declared.fault.Fault.{Fault}
 use Rattle.scenario.specs.declared.fault.Fault.TheVariants.{Study}
-use Rattle.scenario.specs.Reading.{Read}
+use Rattle.scenario.specs.declared.reader.Text.{Text}
+use Rattle.scenario.specs.Reading.{Read, read_as}
 use Rattle.scenario.specs.Texts.{unplaced, table_after}
+
+-- a text of the code, read into this layout
+abbrev pub asked : Text → List ℕ → Result Read Fault
+asked t layout = read_as (Ok t) layout
 
 abbrev pub as_study : {A : Type 0} → Result A Refusal → Result A Fault
 as_study (Ok r) = Ok r
@@ -25,25 +30,25 @@ abbrev pub opened : Result Read Fault → List CoreMeaning → MemoryMeaning →
 opened (Ok t) cs m = as_study (started (weighing t.prices) cs m)
 opened (Err e) cs m = Err e
 
-abbrev pub schedule_of : Result Read Fault → List Call
+abbrev pub schedule_of : {E : Type 0} → Result Read E → List Call
 schedule_of (Ok t) = t.calls
 schedule_of (Err e) = []
 
-abbrev pub prices_of : Result Read Fault → Prices
+abbrev pub prices_of : {E : Type 0} → Result Read E → Prices
 prices_of (Ok t) = t.prices
 prices_of (Err e) = none
 
 -- what the study comes to
-abbrev pub quoted : Result RunMeaning Fault → List Call → Result Quote Fault
+abbrev pub quoted : {E : Type 0} → Result RunMeaning E → List Call → Result Quote E
 quoted (Ok r) ks = Ok (quote_of (played r ks).tally)
 quoted (Err e) ks = Err e
 
 -- cores and memory afterwards: as the run leaves them, or untouched
-abbrev pub cores_after : Result RunMeaning Fault → List CoreMeaning → List Call → List CoreMeaning
+abbrev pub cores_after : {E : Type 0} → Result RunMeaning E → List CoreMeaning → List Call → List CoreMeaning
 cores_after (Ok r) cs ks = (played r ks).cores
 cores_after (Err e) cs ks = cs
 
-abbrev pub memory_after : Result RunMeaning Fault → MemoryMeaning → List Call → MemoryMeaning
+abbrev pub memory_after : {E : Type 0} → Result RunMeaning E → MemoryMeaning → List Call → MemoryMeaning
 memory_after (Ok r) m ks = (played r ks).memory
 memory_after (Err e) m ks = m
 

@@ -1,11 +1,10 @@
 //! The whole way, from the bytes of a scenario to those of its report.
-ghost use Rattle.std.specs.Prelude.{◌≡◌, Ok, OnOk, IfErr};
+ghost use Rattle.std.specs.Prelude.{◌≡◌, OnOk, IfErr};
 ghost use Rattle.std.specs.Io.KnownBytes.{Appends};
 ghost use Rattle.study.specs.Warrant.{Warranted};
-ghost use Rattle.scenario.specs.Reading.{read_as};
 ghost use Rattle.scenario.specs.Texts.{scenario_of};
 ghost use Rattle.simulator.specs.Report.{in_full, report_of};
-ghost use Rattle.simulator.specs.Simulation.{opened, schedule_of, prices_of, quoted, cores_after, memory_after, layout_after, table_left};
+ghost use Rattle.simulator.specs.Simulation.{asked, opened, schedule_of, prices_of, quoted, cores_after, memory_after, layout_after, table_left};
 
 use crate::begin::begin;
 use crate::form::{InFull, Telling};
@@ -39,13 +38,13 @@ pub fn simulate_text<R: Row, M: Memory, W: Write, T: Telling>(
     memory: M,
     report: &mut W,
 ) -> Simulated<R, M>
-    ensures outcome { result.outcome ≡ quoted (opened (read_as (Ok text.entry) layout.old) (R.cores row) (M.meaning memory)) (schedule_of (read_as (Ok text.entry) layout.old)) }
-    ensures row { R.cores result.row ≡ cores_after (opened (read_as (Ok text.entry) layout.old) (R.cores row) (M.meaning memory)) (R.cores row) (schedule_of (read_as (Ok text.entry) layout.old)) }
-    ensures memory { M.meaning result.memory ≡ memory_after (opened (read_as (Ok text.entry) layout.old) (R.cores row) (M.meaning memory)) (M.meaning memory) (schedule_of (read_as (Ok text.entry) layout.old)) }
+    ensures outcome { result.outcome ≡ quoted (opened (asked text.entry layout.old) (R.cores row) (M.meaning memory)) (schedule_of (asked text.entry layout.old)) }
+    ensures row { R.cores result.row ≡ cores_after (opened (asked text.entry layout.old) (R.cores row) (M.meaning memory)) (R.cores row) (schedule_of (asked text.entry layout.old)) }
+    ensures memory { M.meaning result.memory ≡ memory_after (opened (asked text.entry layout.old) (R.cores row) (M.meaning memory)) (M.meaning memory) (schedule_of (asked text.entry layout.old)) }
     ensures back { IfErr result.outcome (λ _. (result.row ≡ row) × (result.memory ≡ memory)) }
-    ensures table { layout.new ≡ layout_after (opened (read_as (Ok text.entry) layout.old) (R.cores row) (M.meaning memory)) layout.old }
-    ensures report { OnOk result.written (Appends (W.contents report.old) (W.contents report.new) (report_of (T.form telling.now) (opened (read_as (Ok text.entry) layout.old) (R.cores row) (M.meaning memory)) (schedule_of (read_as (Ok text.entry) layout.old)))) }
-    ensures warrant { OnOk result.outcome (Warranted (R.cores row) (M.meaning memory) (prices_of (read_as (Ok text.entry) layout.old))) }
+    ensures table { layout.new ≡ layout_after (opened (asked text.entry layout.old) (R.cores row) (M.meaning memory)) layout.old }
+    ensures report { OnOk result.written (Appends (W.contents report.old) (W.contents report.new) (report_of (T.form telling.now) (opened (asked text.entry layout.old) (R.cores row) (M.meaning memory)) (schedule_of (asked text.entry layout.old)))) }
+    ensures warrant { OnOk result.outcome (Warranted (R.cores row) (M.meaning memory) (prices_of (asked text.entry layout.old))) }
 {
     let mut run = match begin(text.prices, row, memory) {
         Ok(run) => run,

@@ -1,0 +1,80 @@
+//! Two placements under one schedule.
+ghost use Rattle.std.specs.Prelude.{◌≡◌, ◌++◌, OnOk, IsOk};
+ghost use Rattle.std.specs.Io.KnownBytes.{Appends};
+ghost use Rattle.report.specs.Pairs.{difference_line};
+ghost use Rattle.report.specs.declared.paired.Side.TheVariants.{A, B};
+ghost use Rattle.paired.specs.Single.{IsSingle, side_of};
+ghost use Rattle.paired.specs.Paired.{figure_of};
+
+use crate::single::{SingleStudy, single};
+use memory::Memory;
+use report::line::Line;
+use report::paired::Side;
+use row::Row;
+use scenario::fault::FileFault;
+use std::io;
+use std::io::Write;
+use study::quote::Quote;
+
+/// A placement, and the row and the memory on which its study is played.
+#[derive(Drop)]
+pub struct Placement<'t, R, M> {
+    pub text: &'t [u8],
+    pub row: R,
+    pub memory: M,
+}
+
+/// What two studies came to, and whether they were told.
+#[derive(Drop)]
+pub struct Comparison<R, M, S, N> {
+    pub a: SingleStudy<R, M>,
+    pub b: SingleStudy<S, N>,
+    pub written: io::Result<()>,
+}
+
+// The figure of a study that came to a quote.
+fn figure(outcome: Result<Quote, FileFault>) -> Option<u64>
+    ensures { result ≡ figure_of outcome }
+{
+    outcome.ok().and_then(|quote| quote.figure)
+}
+
+// Writes a line, if both sides were written.
+fn finish<W: Write>(
+    report: &mut W,
+    a: io::Result<()>,
+    b: io::Result<()>,
+    line: &Line,
+) -> io::Result<()>
+    ensures { OnOk result (IsOk a × IsOk b × Appends (W.contents report.old) (W.contents report.new) line.now) }
+{
+    a?;
+    b?;
+    report.write_all(line.bytes())
+}
+
+/// Plays the single study of each placement under the schedule, on its own row and memory, and tells both sides and the
+/// difference of their figures.
+pub fn compare<R: Row, M: Memory, S: Row, N: Memory, W: Write>(
+    a: Placement<'_, R, M>,
+    b: Placement<'_, S, N>,
+    schedule: &[u8],
+    report: &mut W,
+) -> Comparison<R, M, S, N>
+    ensures a { IsSingle R.cores M.meaning a.entry.text.now schedule.now a.entry.row a.entry.memory result.a }
+    ensures b { IsSingle S.cores N.meaning b.entry.text.now schedule.now b.entry.row b.entry.memory result.b }
+    ensures report { OnOk result.written (Appends (W.contents report.old) (W.contents report.new)
+        (side_of A a.entry.text.now schedule.now (R.cores a.entry.row) (M.meaning a.entry.memory)
+        ++ (side_of B b.entry.text.now schedule.now (S.cores b.entry.row) (N.meaning b.entry.memory)
+        ++ difference_line (figure_of result.a.outcome) (figure_of result.b.outcome)))) }
+{
+    let (first, first_written) = single(Side::A, a.text, schedule, a.row, a.memory, report);
+    let (second, second_written) = single(Side::B, b.text, schedule, b.row, b.memory, report);
+    let line = Line::of_difference(figure(first.outcome), figure(second.outcome));
+    let written = finish(report, first_written, second_written, &line);
+    Comparison {
+        a: first,
+        b: second,
+        written,
+    }
+}
