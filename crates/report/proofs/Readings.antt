@@ -1,5 +1,6 @@
 -- What the lines of a report read back as.
 use Rattle.std.proofs.Common.{◌≡◌, ℕ, ◌^◌, ◌<◌, true, false, cond, ltb, List, [], ◌∷◌, ◌++◌, codes, decimal, Some, None, Option, IfSome, lit<, refl, sym, ap, ◌∙◌, arith}
+use Rattle.std.specs.Int.{abs_diff}
 use Rattle.protocol.specs.declared.answer.Word.{Word}
 use Rattle.protocol.specs.declared.answer.Word.TheVariants.{Waits, Brought, Read, Wrote, Flushed, Committed, Refused}
 use Rattle.protocol.specs.Answers.{spelling as word_spelling}
@@ -16,7 +17,7 @@ use Rattle.scenario.specs.declared.fault.File.{File}
 use Rattle.scenario.specs.declared.fault.File.TheVariants.{Placement, Schedule}
 use Rattle.scenario.specs.Faults.{file_spelling}
 use Rattle.report.specs.Lines.{row}
-use Rattle.report.specs.Pairs.{side_spelling, refusal_fields, refusal_read, cheaper, difference as figure_difference, difference_line, difference_read}
+use Rattle.report.specs.Pairs.{side_spelling, refusal_fields, refusal_read, cheaper, difference_line, difference_read}
 use Rattle.report.specs.Reading.{Field, Number, Text, number_after, field_of, read_back, figure_read}
 use Rattle.report.proofs.Reading.{written, IsPlain, one_more, reads_back}
 
@@ -123,7 +124,7 @@ side_fault line rest s f fs e h =
 
 pub difference : (line : List ℕ) (a b : ℕ) → line ≡ difference_line (Some a) (Some b) → a < 2 ^ 64 → b < 2 ^ 64 → read_back line ≡ Some (difference_read (Some a) (Some b))
 difference line a b e ha hb =
-    ap read_back e ∙ reads_back (Text (codes "difference")) (Number (figure_difference a b) ∷ Text (cheaper a b) ∷ []) (difference_word, (omega arith, (cheaper_word a b, tt)))
+    ap read_back e ∙ reads_back (Text (codes "difference")) (Number (abs_diff a b) ∷ Text (cheaper a b) ∷ []) (difference_word, (omega arith, (cheaper_word a b, tt)))
 
 pub no_difference : (line : List ℕ) → line ≡ row (codes "difference" ∷ codes "-" ∷ codes "-" ∷ []) → read_back line ≡ Some (Text (codes "difference") ∷ Text (codes "-") ∷ Text (codes "-") ∷ [])
 no_difference line e = ap read_back e ∙ reads_back (Text (codes "difference")) (Text (codes "-") ∷ Text (codes "-") ∷ []) (difference_word, (none_word, (none_word, tt)))

@@ -1,5 +1,6 @@
 -- The lines of a paired study, byte for byte.
-use Rattle.std.specs.Prelude.{ℕ, ◌+◌, ◌-◌, cond, List, [], ◌∷◌, codes, decimal, Some, Option, nat_lt}
+use Rattle.std.specs.Prelude.{ℕ, cond, List, [], ◌∷◌, codes, decimal, Some, Option, nat_lt}
+use Rattle.std.specs.Int.{abs_diff}
 use Rattle.protocol.specs.declared.refusal.Refusal.{Refusal}
 use Rattle.protocol.specs.Refusals.{refusal_number}
 use Rattle.study.specs.declared.quote.Quote.{Quote}
@@ -31,12 +32,8 @@ side_fault_line s file f = row (side_spelling s ∷ codes "fault" ∷ file_spell
 abbrev pub cheaper : ℕ → ℕ → List ℕ
 cheaper a b = cond (nat_lt a b) (codes "a") (cond (nat_lt b a) (codes "b") (codes "equal"))
 
--- the larger figure less the smaller; one of the two terms is 0
-abbrev pub difference : ℕ → ℕ → ℕ
-difference a b = (a - b) + (b - a)
-
 abbrev pub difference_line : Option ℕ → Option ℕ → List ℕ
-difference_line (Some a) (Some b) = row (codes "difference" ∷ decimal (difference a b) ∷ cheaper a b ∷ [])
+difference_line (Some a) (Some b) = row (codes "difference" ∷ decimal (abs_diff a b) ∷ cheaper a b ∷ [])
 difference_line _ _ = row (codes "difference" ∷ codes "-" ∷ codes "-" ∷ [])
 
 -- what each line reads back as
@@ -53,5 +50,5 @@ abbrev pub side_fault_read : Side → File → Fault → List Field
 side_fault_read s file f = Text (side_spelling s) ∷ Text (codes "fault") ∷ Text (file_spelling file) ∷ told_read (told_of f)
 
 abbrev pub difference_read : Option ℕ → Option ℕ → List Field
-difference_read (Some a) (Some b) = Text (codes "difference") ∷ Number (difference a b) ∷ Text (cheaper a b) ∷ []
+difference_read (Some a) (Some b) = Text (codes "difference") ∷ Number (abs_diff a b) ∷ Text (cheaper a b) ∷ []
 difference_read _ _ = Text (codes "difference") ∷ Text (codes "-") ∷ Text (codes "-") ∷ []
