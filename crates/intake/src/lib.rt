@@ -8,11 +8,18 @@ use std::alloc::Global;
 use std::io;
 use std::io::Read;
 
-/// The bytes of an input, but no more than one above those that a text may have, by which a longer one is known.
+// One byte more than a text may have, by which a longer one is known.
+fn most() -> u64
+    ensures { result ≡ 65537 }
+{
+    MOST_BYTES as u64 + 1
+}
+
+/// The bytes of an input, but no more than one above those that a text may have.
 pub fn text<R: Read + Drop>(heap: Global, input: R) -> io::Result<Vec<u8>>
     ensures { IfOk result (λ bytes. IfSome (R.remaining input) (λ given. vec_items bytes ≡ take 65537 given)) }
 {
     let mut bytes = Vec::new(heap);
-    input.take(MOST_BYTES as u64 + 1).read_to_end(&mut bytes)?;
+    input.take(most()).read_to_end(&mut bytes)?;
     Ok(bytes)
 }

@@ -1,4 +1,4 @@
-use Rattle.std.proofs.Common.{◌≡◌, refl, arith, rules}
+use Rattle.std.proofs.Common.{refl, arith}
 use Rattle.simulator.proofs.Telling.{on_one, on_both, told_none, played_on, told_on, played_all, told_all}
 use Rattle.simulator.proofs.play.play.Goals as goal
 
