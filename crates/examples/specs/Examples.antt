@@ -1,5 +1,5 @@
--- Worked examples of each kind of tier, of a pile and of a window.
-use Rattle.std.specs.Prelude.{◌≡◌, ℕ, false, List, [], ◌∷◌, Some, Option}
+-- Worked examples: of each kind of tier, of a pile and a window, of the figure, and of a scenario of nine steps with its report.
+use Rattle.std.specs.Prelude.{◌≡◌, ℕ, false, List, [], ◌∷◌, length, Some, None, Ok, Option}
 use Rattle.device.specs.Device.{reach}
 use Rattle.parts.specs.declared.mark.Mark.TheVariants.{Shared}
 use Rattle.parts.specs.declared.line.Line.{Line}
@@ -8,8 +8,18 @@ use Rattle.tier.specs.Pile.{pile}
 use Rattle.direct.specs.Lines.{direct, empty}
 use Rattle.ranks.specs.Ranks.{ranked}
 use Rattle.assoc.specs.Sets.{set_associative, empty as empty-sets}
-use Rattle.memory.specs.Meaning.{MemoryMeaning, size_of}
+use Rattle.memory.specs.Meaning.{MemoryMeaning, size_of, lent_of}
 use Rattle.window.specs.Window.{window}
+use Rattle.protocol.specs.Prices.{weighing}
+use Rattle.machine.specs.Machine.{two_cores}
+use Rattle.study.specs.Figure.{figure_of}
+use Rattle.study.specs.Run.{tally}
+use Rattle.study.specs.Opening.{started}
+use Rattle.study.specs.Play.{history, calls_of}
+use Rattle.scenario.specs.Reading.{a_read}
+use Rattle.scenario.specs.Texts.{scenario_of}
+use Rattle.simulator.specs.Report.{in_full, report_of}
+use Rattle.examples.specs.Nine.{weights, blocks, begun, nine, scenario_text, report_text, layout, over, table_after}
 
 -- what a put of block n gives out, once the calls were made
 abbrev pub gives_out : TierMeaning → List TierCall → ℕ → Option Line
@@ -39,3 +49,17 @@ pub record Examples : Type 0 where
   pub pile_deepest : look_of (reach five (puts 0 ∷ puts 1 ∷ puts 2 ∷ puts 3 ∷ puts 4 ∷ [])) 0 ≡ Some (0, 0, 4)
   -- a window from 4 of length 10 over a memory of 6 blocks has 2
   pub window_short : (m : MemoryMeaning) → size_of m ≡ 6 → size_of (window 4 10 m) ≡ 2
+  -- a mean of 100, a third rounded down, and no mean of no access
+  pub figure_whole : figure_of 300 3 ≡ Some 10000
+  pub figure_third : figure_of 1 3 ≡ Some 33
+  pub figure_none : figure_of 0 0 ≡ None
+  -- the scenario is read so, into any table of 256 entries
+  pub nine_read : (t : List ℕ) → length t ≡ 256 → scenario_of t scenario_text ≡ Ok (a_read weights layout (calls_of nine))
+  -- whatever the name of the loan: the nine calls begin, and are answered so; 8 accepted steps, 1 write, 3 accesses, total 300
+  pub nine_begin : (a : ℕ) → started (weighing weights) two_cores (blocks a) ≡ Ok (begun a)
+  pub nine_history : (a : ℕ) → history (begun a) (calls_of nine) ≡ nine
+  pub nine_tally : (a : ℕ) → (over a).tally ≡ tally 8 1 3 300
+  -- the table that was lent, afterwards
+  pub nine_lent : (a : ℕ) → lent_of (over a).memory ≡ record { name = a; cells = table_after } ∷ []
+  -- the report, byte for byte
+  pub nine_report : (a : ℕ) → report_of in_full (Ok (begun a)) (calls_of nine) ≡ report_text

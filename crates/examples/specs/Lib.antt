@@ -1,1 +1,3 @@
+pub mod Nine
 pub mod Examples
+pub mod Premises

@@ -3,17 +3,29 @@
 
 ghost use Rattle.std.specs.Prelude.{◌≡◌};
 ghost use Rattle.examples.specs.Examples.{Examples};
+ghost use Rattle.examples.specs.Premises.{Premises};
 
 // A function for each theorem that a contract names: a theorem is no parameter.
 /// The examples hold of the definitions; the answer is how many there are.
 pub fn examples_hold() -> u8
-    ensures count { result ≡ 7 }
+    ensures count { result ≡ 16 }
     ensures hold { Examples }
 {
-    7
+    16
+}
+
+// As above: a theorem is no parameter.
+/// What is shipped meets the premises of what is proved of every study; the answer is how many there are.
+pub fn premises_met() -> u8
+    ensures count { result ≡ 12 }
+    ensures met { Premises }
+{
+    12
 }
 
 #[cfg(test)]
 mod memory_tests;
+#[cfg(test)]
+mod study_tests;
 #[cfg(test)]
 mod tier_tests;

@@ -22,8 +22,8 @@ use Rattle.study.specs.Run.{RunMeaning}
 use Rattle.study.specs.Opening.{opened, opening}
 use Rattle.protocol.specs.Prices.{Affordable}
 use Rattle.study.proofs.Warranty.{warrant}
-use Rattle.study_examples.specs.Nine.{weights}
-use Rattle.study_examples.proofs.premises_met.Goals as goal
+use Rattle.examples.specs.Nine.{weights}
+use Rattle.examples.proofs.premises_met.Goals as goal
 
 lines : (l : ℕ) → 1 ≤ l → LawfulTier (direct (empty l))
 lines l some = direct-lawful l (empty l) (some, length-replicate l None, empty-placed (empty l) l refl)

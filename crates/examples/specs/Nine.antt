@@ -1,5 +1,5 @@
 -- A study of nine calls on two cores that share 16 blocks.
-use Rattle.std.specs.Prelude.{ℕ, List, [], ◌∷◌, map, replicate, Some, None, Ok, Err, Option, Result, slice_set}
+use Rattle.std.specs.Prelude.{ℕ, List, [], ◌∷◌, replicate, Some, Ok, Err, Result, slice_set, codes}
 use Rattle.memory.specs.declared.cell.Cell.{Cell}
 use Rattle.memory.specs.declared.cell.State.{State}
 use Rattle.memory.specs.declared.cell.State.TheVariants.{Valid, Stale}
@@ -7,9 +7,6 @@ use Rattle.memory.specs.Meaning.{MemoryMeaning}
 use Rattle.memory.specs.Flat.{flat}
 use Rattle.protocol.specs.declared.answer.Answer.{Answer}
 use Rattle.protocol.specs.declared.answer.Answer.TheVariants.{Waits, Brought, Read as WasRead, Wrote, Flushed}
-use Rattle.protocol.specs.declared.answer.Word.{Word}
-use Rattle.protocol.specs.declared.answer.Word.TheVariants.{Waits as WaitsWord, Brought as BroughtWord, Read as ReadWord, Wrote as WroteWord, Flushed as FlushedWord, Refused as RefusedWord}
-use Rattle.protocol.specs.Answers.{word_of, value_of}
 use Rattle.protocol.specs.declared.call.Call.{Call}
 use Rattle.protocol.specs.declared.call.Call.TheVariants.{Read, Write, Fetch, Resume, Flush}
 use Rattle.protocol.specs.declared.refusal.Refusal.{Refusal}
@@ -55,26 +52,16 @@ nine =
     ∷ turn (Resume 1) (Ok (WasRead 1)) 300
     ∷ []
 
--- what a report tells of a turn: the word of its answer, the value, and the total after it
-abbrev pub told_of : Option Played → Option (Word × ℕ × ℕ)
-told_of None = None
-told_of (Some p) = Some (word_of p.answer, value_of p.answer, p.total)
+-- the scenario that asks for it, and its report
+abbrev pub scenario_text : List ℕ
+scenario_text = codes "weights\t0\t10\t10\t10\t100\nref\t1\t3\nread\t0\t1\nfetch\t0\nresume\t0\nwrite\t0\t1\nread\t1\t1\nfetch\t1\nflush\t0\t1\nfetch\t1\nresume\t1\n"
 
-abbrev pub told : List Turn → List (Option (Word × ℕ × ℕ))
-told = map (λ (t : Turn). told_of t.played)
+abbrev pub report_text : List ℕ
+report_text = codes "1\twaits\t3\t0\n2\tbrought\t3\t100\n3\tread\t0\t100\n4\twrote\t1\t100\n5\twaits\t3\t100\n6\trefused\t8\t100\n7\tflushed\t3\t200\n8\tbrought\t3\t300\n9\tread\t1\t300\nquote\t3\t300\t10000\n"
 
-abbrev pub report : List (Option (Word × ℕ × ℕ))
-report =
-    Some (WaitsWord, 3, 0)
-    ∷ Some (BroughtWord, 3, 100)
-    ∷ Some (ReadWord, 0, 100)
-    ∷ Some (WroteWord, 1, 100)
-    ∷ Some (WaitsWord, 3, 100)
-    ∷ Some (RefusedWord, 8, 100)
-    ∷ Some (FlushedWord, 3, 200)
-    ∷ Some (BroughtWord, 3, 300)
-    ∷ Some (ReadWord, 1, 300)
-    ∷ []
+-- reference 1 lies in block 3, and no other is placed
+abbrev pub layout : List ℕ
+layout = slice_set (replicate 256 65536) 1 3
 
 -- the run after the nine calls
 abbrev pub over : ℕ → RunMeaning

@@ -15,7 +15,7 @@ use Rattle.machine.specs.Machine.{two_cores}
 use Rattle.study.specs.Opening.{opened, opening}
 use Rattle.protocol.specs.Prices.{Affordable}
 use Rattle.study.specs.Warrant.{Warranted}
-use Rattle.study_examples.specs.Nine.{weights}
+use Rattle.examples.specs.Nine.{weights}
 
 pub record Premises : Type 0 where
   -- the tiers as they are made, and every pile of lawful tiers

@@ -1,3 +1,0 @@
-pub mod Nine
-pub mod StudyExamples
-pub mod Premises
