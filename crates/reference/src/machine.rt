@@ -1,0 +1,48 @@
+//! A machine as plain data: levels of cores, cells of memory, and how the memory is made of them.
+
+/// One level of a core's caches. A size that is out of range stands for one line.
+#[derive(Clone, Copy)]
+pub enum Level {
+    /// 1 to 64 lines.
+    Direct { lines: usize },
+    /// 1 to 16 lines, first in first out.
+    Queue { lines: usize },
+    /// 1 to 16 lines, of which the least recently used leaves.
+    Recent { lines: usize },
+    /// 1 to 16 sets of 1 to 4 ways.
+    Sets { sets: usize, ways: usize },
+}
+
+/// What a table of memory holds of a block.
+#[derive(Clone, Copy, PartialEq, Eq)]
+pub struct Cell {
+    pub valid: bool,
+    pub stamp: u64,
+}
+
+/// A memory over the cells, or over parts that stand before it in their list.
+#[derive(Clone, Copy)]
+pub enum Part {
+    /// The next so many cells, which no earlier part took.
+    Flat {
+        cells: usize,
+    },
+    Interleaved {
+        first: usize,
+        second: usize,
+    },
+    Window {
+        start: usize,
+        length: usize,
+        below: usize,
+    },
+}
+
+/// The cores, each with its levels from the first; the parts of the memory, of which the last is the whole; and all cells,
+/// table after table. How the levels of a core were piled makes no difference, and so is not told.
+#[derive(Drop)]
+pub struct Machine {
+    pub cores: Vec<Vec<Level>>,
+    pub parts: Vec<Part>,
+    pub cells: Vec<Cell>,
+}
