@@ -12,55 +12,28 @@ pub(crate) struct Line {
     pub(crate) stamp: u64,
 }
 
-// Block n may stand in room n mod rooms alone, which has so many places. Where a room is full its oldest line makes way;
-// a touch makes a line the newest if `renews` says so.
+// Block n may stand in room n mod rooms alone, which has so many places. Where a room is full its oldest line makes way.
+// A touch makes a line the newest, but in a queue.
 #[derive(Clone, Copy)]
 struct Shape {
     rooms: usize,
     places: usize,
-    renews: bool,
+    queues: bool,
 }
 
 impl Shape {
-    fn one_line() -> Shape {
-        Shape {
-            rooms: 1,
-            places: 1,
-            renews: false,
-        }
-    }
-
-    fn one_room(places: usize, renews: bool) -> Shape {
-        Shape {
-            rooms: 1,
-            places,
-            renews,
-        }
-    }
-
     fn of(level: Level) -> Shape {
-        match level {
-            Level::Direct {
-                lines: lines @ 1..=64,
-            } => Shape {
-                rooms: lines,
-                ..Shape::one_line()
-            },
-            Level::Queue {
-                lines: lines @ 1..=16,
-            } => Shape::one_room(lines, false),
-            Level::Recent {
-                lines: lines @ 1..=16,
-            } => Shape::one_room(lines, true),
-            Level::Sets {
-                sets: sets @ 1..=16,
-                ways: ways @ 1..=4,
-            } => Shape {
-                rooms: sets,
-                places: ways,
-                renews: true,
-            },
-            _ => Shape::one_line(),
+        let (rooms, places, queues) = match level {
+            Level::Direct(lines @ 1..=64) => (lines, 1, false),
+            Level::Queue(lines @ 1..=16) => (1, lines, true),
+            Level::Recent(lines @ 1..=16) => (1, lines, false),
+            Level::Sets(sets @ 1..=16, ways @ 1..=4) => (sets, ways, false),
+            _ => (1, 1, false),
+        };
+        Shape {
+            rooms,
+            places,
+            queues,
         }
     }
 
@@ -76,23 +49,14 @@ pub(crate) struct Caches {
     lines: Vec<Line>,
 }
 
-/// What bringing a block up met: the line where it was, and the line that left the caches for it.
-#[derive(Clone, Copy)]
-pub(crate) struct Raised {
-    pub(crate) line: Line,
-    pub(crate) left: Option<Line>,
-}
-
 impl Caches {
     pub(crate) fn new(heap: Global, levels: &[Level]) -> Result<Caches, AllocError> {
+        let lines = Vec::new(heap);
         let mut shapes = Vec::new(heap);
         for level in levels {
             shapes.push(Shape::of(*level))?;
         }
-        Ok(Caches {
-            shapes,
-            lines: Vec::new(heap),
-        })
+        Ok(Caches { shapes, lines })
     }
 
     pub(crate) fn look(&self, block: usize) -> Option<Line> {
@@ -152,29 +116,21 @@ impl Caches {
         Ok(Some(sinking))
     }
 
-    fn touch(&mut self, line: Line) -> Result<(), AllocError> {
-        let renews = self
-            .shapes
-            .get(line.level)
-            .is_some_and(|shape| shape.renews);
-        if renews {
-            self.free(line.block);
-            self.lines.push(line)?;
-        }
-        Ok(())
-    }
-
-    /// Brings a held block up to the first level.
-    pub(crate) fn raise(&mut self, block: usize) -> Result<Option<Raised>, AllocError> {
+    /// Brings a held block up to the first level, and tells its line as it was and what left the caches for it. A touch in
+    /// the first level does what taking the line and putting it again would do.
+    pub(crate) fn raise(
+        &mut self,
+        block: usize,
+    ) -> Result<Option<(Line, Option<Line>)>, AllocError> {
         let Some(line) = self.look(block) else {
             return Ok(None);
         };
-        if line.level == 0 {
-            self.touch(line)?;
-            return Ok(Some(Raised { line, left: None }));
+        let queues = self.shapes.first().is_some_and(|shape| shape.queues);
+        if line.level == 0 && queues {
+            return Ok(Some((line, None)));
         }
         self.free(block);
         let left = self.put(line)?;
-        Ok(Some(Raised { line, left }))
+        Ok(Some((line, left)))
     }
 }

@@ -4,7 +4,7 @@
 //! that it is safe and ends, and what the program `compare` shows.
 #![tactic(auto)]
 
-ghost use Rattle.std.specs.Prelude.{◌≡◌, ◌-◌, IfOk, Some, None, vec_len, length, slice_get};
+ghost use Rattle.std.specs.Prelude.{◌≡◌, ◌-◌, IfOk, Some, vec_len, length, slice_get};
 
 mod caches;
 pub mod calls;
@@ -45,12 +45,12 @@ pub fn side(
 ) -> Result<Report, AllocError>
     ensures ends_in_line_feed { IfOk result (λ r. slice_get r.text.items (vec_len r.text - 1) ≡ Some 10) }
 {
-    let source = Source::Side {
-        name,
-        placement,
-        schedule,
-    };
-    let mut report = tell(heap, machine, source, layout)?;
+    let mut report = tell(
+        heap,
+        machine,
+        Source::Side(name, placement, schedule),
+        layout,
+    )?;
     report.text.push(b'\n')?;
     Ok(report)
 }
@@ -77,14 +77,24 @@ pub fn difference(heap: Global, a: Option<u64>, b: Option<u64>) -> Result<Vec<u8
     Ok(line)
 }
 
-/// What became of a list of calls: nothing but the refusal where the study was not opened.
+/// What became of a list of calls: the number of the refusal where the study was not opened, or else 0 and a turn for each.
 #[derive(Drop)]
 pub struct Played {
-    pub refusal: Option<u64>,
+    pub refusal: u64,
     pub turns: Vec<Turn>,
     pub accesses: u64,
     pub figure: Option<u64>,
     pub cells: Vec<Cell>,
+}
+
+fn turns_of(heap: Global, study: &mut Study, calls: &[Call]) -> Result<Vec<Turn>, AllocError>
+    ensures { IfOk result (λ turns. vec_len turns ≡ length calls.now) }
+{
+    let mut turns = Vec::new(heap);
+    for call in calls {
+        turns.push(study.step(*call)?)?;
+    }
+    Ok(turns)
 }
 
 /// Opens a study and plays a list of calls.
@@ -94,20 +104,15 @@ pub fn play(
     weights: [u64; 5],
     calls: &[Call],
 ) -> Result<Played, AllocError>
-    ensures a_turn_for_each { IfOk result (λ p. p.refusal ≡ None → vec_len p.turns ≡ length calls.now) }
+    ensures a_turn_for_each { IfOk result (λ p. p.refusal ≡ 0 → vec_len p.turns ≡ length calls.now) }
 {
     let mut study = Study::new(heap, machine, weights)?;
-    let mut turns = Vec::new(heap);
-    let refusal = match study.refusal_to_open() {
-        0 => None,
-        number => Some(number),
+    let refusal = study.open();
+    let turns = if refusal == 0 {
+        turns_of(heap, &mut study, calls)?
+    } else {
+        Vec::new(heap)
     };
-    if refusal.is_none() {
-        study.open();
-        for call in calls {
-            turns.push(study.step(*call)?)?;
-        }
-    }
     Ok(Played {
         refusal,
         turns,
@@ -116,6 +121,3 @@ pub fn play(
         cells: study.into_cells(),
     })
 }
-
-#[cfg(test)]
-mod tests;

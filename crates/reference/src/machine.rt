@@ -4,13 +4,13 @@
 #[derive(Clone, Copy)]
 pub enum Level {
     /// 1 to 64 lines.
-    Direct { lines: usize },
+    Direct(usize),
     /// 1 to 16 lines, first in first out.
-    Queue { lines: usize },
+    Queue(usize),
     /// 1 to 16 lines, of which the least recently used leaves.
-    Recent { lines: usize },
+    Recent(usize),
     /// 1 to 16 sets of 1 to 4 ways.
-    Sets { sets: usize, ways: usize },
+    Sets(usize, usize),
 }
 
 /// What a table of memory holds of a block.
@@ -20,22 +20,15 @@ pub struct Cell {
     pub stamp: u64,
 }
 
-/// A memory over the cells, or over parts that stand before it in their list.
+/// A memory over cells, or over parts that stand before it in their list.
 #[derive(Clone, Copy)]
 pub enum Part {
     /// The next so many cells, which no earlier part took.
-    Flat {
-        cells: usize,
-    },
-    Interleaved {
-        first: usize,
-        second: usize,
-    },
-    Window {
-        start: usize,
-        length: usize,
-        below: usize,
-    },
+    Flat(usize),
+    /// Two parts in turn.
+    Interleaved(usize, usize),
+    /// A start and a length in a part.
+    Window(usize, usize, usize),
 }
 
 /// The cores, each with its levels from the first; the parts of the memory, of which the last is the whole; and all cells,

@@ -71,23 +71,21 @@ impl Study {
         })
     }
 
-    /// The number of the refusal of an opening, or 0.
-    pub(crate) fn refusal_to_open(&self) -> u64 {
+    /// Opens the study, or leaves all as it was and tells the number of the refusal.
+    pub(crate) fn open(&mut self) -> u64 {
         if self.weights.iter().any(|weight| *weight > MOST_WEIGHT) {
-            3
-        } else if self.cores.len() > MOST_CORES {
-            1
-        } else if self.store.size() == 0 {
-            2
-        } else {
-            0
+            return 3;
         }
-    }
-
-    pub(crate) fn open(&mut self) {
+        if self.cores.len() > MOST_CORES {
+            return 1;
+        }
+        if self.store.size() == 0 {
+            return 2;
+        }
         for block in 0..self.store.size() {
             self.store.store(block, 0);
         }
+        0
     }
 
     /// The mean penalty in hundredths.
@@ -100,12 +98,8 @@ impl Study {
         store.into_cells()
     }
 
-    fn held(&self, core: usize, block: usize) -> Option<Line> {
-        self.cores.get(core)?.caches.look(block)
-    }
-
     fn holds_modified(&self, core: usize, block: usize) -> Option<Line> {
-        let line = self.held(core, block)?;
+        let line = self.cores.get(core)?.caches.look(block)?;
         if line.modified { Some(line) } else { None }
     }
 
@@ -116,6 +110,10 @@ impl Study {
             }
         }
         false
+    }
+
+    fn owes(&self, core: usize, block: usize) -> bool {
+        self.holds_modified(core, block).is_some() && self.is_awaited_elsewhere(core, block)
     }
 
     // The number of a step's refusal, or 0.
@@ -141,9 +139,7 @@ impl Study {
         if call.kind == Kind::Fetch && self.store.ask(core.block).is_none() {
             return 8;
         }
-        let owed = self.holds_modified(call.core, call.block).is_some()
-            && self.is_awaited_elsewhere(call.core, call.block);
-        if call.kind == Kind::Flush && !owed {
+        if call.kind == Kind::Flush && !self.owes(call.core, call.block) {
             return 9;
         }
         0
@@ -218,17 +214,17 @@ impl Study {
             Some(core) => core.caches.raise(block)?,
             None => None,
         };
-        let Some(raised) = raised else {
+        let Some((line, left)) = raised else {
             self.advance(number, Phase::Waiting);
             return Ok((Word::Waits, block as u64));
         };
         self.accesses = self.accesses.wrapping_add(1);
-        self.charge(raised.line.level.min(3));
-        self.see_off(raised.left);
+        self.charge(line.level.min(3));
+        self.see_off(left);
         if writes {
-            Ok((Word::Wrote, self.mark(number, raised.line)))
+            Ok((Word::Wrote, self.mark(number, line)))
         } else {
-            Ok((Word::Read, raised.line.stamp))
+            Ok((Word::Read, line.stamp))
         }
     }
 

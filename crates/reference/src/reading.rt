@@ -12,13 +12,6 @@ const MOST_BYTES: usize = 65_536;
 
 const MOST_LINE: usize = 80;
 
-#[derive(Clone, Copy)]
-pub(crate) enum Layer {
-    Text,
-    Layout,
-    Study,
-}
-
 /// Which lines a text may have.
 #[derive(Clone, Copy, PartialEq, Eq)]
 pub(crate) enum Form {
@@ -31,7 +24,6 @@ pub(crate) enum Form {
 #[derive(Clone, Copy)]
 pub(crate) struct Fault {
     pub(crate) form: Form,
-    pub(crate) layer: Layer,
     pub(crate) line: usize,
     pub(crate) field: usize,
     pub(crate) number: u64,
@@ -45,10 +37,9 @@ pub(crate) enum Stop {
 }
 
 impl Stop {
-    pub(crate) fn at(form: Form, layer: Layer, line: usize, field: usize, number: u64) -> Stop {
+    pub(crate) fn at(form: Form, line: usize, field: usize, number: u64) -> Stop {
         Stop::Fault(Fault {
             form,
-            layer,
             line,
             field,
             number,
@@ -77,17 +68,18 @@ enum First {
 
 impl First {
     fn of(field: &[u8]) -> Option<First> {
-        match field {
-            b"weights" => Some(First::Weights),
-            b"ref" => Some(First::Ref),
-            b"read" => Some(First::Step(Kind::Read)),
-            b"write" => Some(First::Step(Kind::Write)),
-            b"fetch" => Some(First::Step(Kind::Fetch)),
-            b"resume" => Some(First::Step(Kind::Resume)),
-            b"flush" => Some(First::Step(Kind::Flush)),
-            b"commit" => Some(First::Step(Kind::Commit)),
-            _ => None,
-        }
+        let kind = match field {
+            b"weights" => return Some(First::Weights),
+            b"ref" => return Some(First::Ref),
+            b"read" => Kind::Read,
+            b"write" => Kind::Write,
+            b"fetch" => Kind::Fetch,
+            b"resume" => Kind::Resume,
+            b"flush" => Kind::Flush,
+            b"commit" => Kind::Commit,
+            _ => return None,
+        };
+        Some(First::Step(kind))
     }
 
     // How many tabs its line has, and so how many numbers.
@@ -175,67 +167,49 @@ impl Reader {
 
     // The block of a reference that is placed.
     fn block_of(&self, reference: usize) -> Option<usize> {
-        match self.layout.get(reference) {
-            Some(entry) if *entry != UNPLACED => Some(*entry as usize),
-            _ => None,
+        let entry = *self.layout.get(reference)?;
+        if entry == UNPLACED {
+            None
+        } else {
+            Some(entry as usize)
         }
     }
 
     fn read_line(&mut self, form: Form, line: usize, bytes: &[u8]) -> Result<(), Stop> {
-        let in_text = |field: usize, number: u64| Stop::at(form, Layer::Text, line, field, number);
-        let in_layout = |field: usize, number: u64| Stop::at(
-            form,
-            Layer::Layout,
-            line,
-            field,
-            number,
-        );
+        let fault = |field: usize, number: u64| Stop::at(form, line, field, number);
         let word = bytes
             .split(|byte| *byte == b'\t')
             .next()
             .and_then(First::of);
         let Some(first) = word else {
-            return Err(in_text(1, 17));
+            return Err(fault(1, 17));
         };
         if !self.may_stand(form, first, line) {
-            return Err(in_text(1, 17));
+            return Err(fault(1, 17));
         }
         if bytes.iter().filter(|byte| **byte == b'\t').count() != first.tabs() {
-            return Err(in_text(0, 18));
+            return Err(fault(0, 18));
         }
-        let [one, two, three, four, five] = match numbers_in(bytes) {
+        let numbers = match numbers_in(bytes) {
             Ok(numbers) => numbers,
-            Err(field) => return Err(in_text(field, 19)),
+            Err(field) => return Err(fault(field, 19)),
         };
+        let [one, two, ..] = numbers;
         match first {
-            First::Weights => {
-                self.weights = [
-                    one as u64,
-                    two as u64,
-                    three as u64,
-                    four as u64,
-                    five as u64,
-                ];
-            }
-            First::Ref => {
-                if !self.place(one, two) {
-                    return Err(in_layout(2, 20));
-                }
-            }
+            First::Weights => self.weights = numbers.map(|number| number as u64),
+            First::Ref if self.place(one, two) => {}
+            First::Ref => return Err(fault(2, 20)),
             First::Step(kind) => {
-                let block = if kind.names_block() {
+                let placed = if kind.names_block() {
                     self.block_of(two)
                 } else {
                     Some(0)
                 };
-                let Some(block) = block else {
-                    return Err(in_layout(3, 21));
+                let Some(block) = placed else {
+                    return Err(fault(3, 21));
                 };
-                self.steps.push(Call {
-                    kind,
-                    core: one,
-                    block,
-                })?;
+                let core = one;
+                self.steps.push(Call { kind, core, block })?;
             }
         }
         Ok(())
@@ -243,14 +217,11 @@ impl Reader {
 
     /// Reads a text to its end, or to its first fault.
     pub(crate) fn read(&mut self, form: Form, text: &[u8]) -> Result<(), Stop> {
-        let in_text = |line: usize, field: usize, number: u64| {
-            Stop::at(form, Layer::Text, line, field, number)
-        };
         if text.len() > MOST_BYTES {
-            return Err(in_text(0, 0, 15));
+            return Err(Stop::at(form, 0, 0, 15));
         }
         if text.is_empty() && form != Form::Placement {
-            return Err(in_text(1, 1, 17));
+            return Err(Stop::at(form, 1, 1, 17));
         }
         for (place, piece) in text.split_inclusive(|byte| *byte == b'\n').enumerate() {
             let line = place.wrapping_add(1);
@@ -258,7 +229,7 @@ impl Reader {
                 [bytes @ .., b'\n'] if bytes.len() <= MOST_LINE => self.read_line(
                     form, line, bytes,
                 )?,
-                _ => return Err(in_text(line, 0, 16)),
+                _ => return Err(Stop::at(form, line, 0, 16)),
             }
         }
         Ok(())

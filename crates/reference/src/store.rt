@@ -21,71 +21,45 @@ fn made_at<'a>(made: &'a [Vec<usize>], number: usize) -> &'a [usize] {
     }
 }
 
-// A table of no cell or of too many makes a memory without blocks.
-fn flat(heap: Global, first: usize, cells: usize) -> Result<Vec<usize>, AllocError> {
+fn in_turn(heap: Global, even: &[usize], odd: &[usize]) -> Result<Vec<usize>, AllocError> {
     let mut places = Vec::new(heap);
-    if cells <= MOST_CELLS {
-        for number in 0..cells {
-            places.push(first.wrapping_add(number))?;
-        }
+    for (first, second) in even.iter().zip(odd).take(MOST_BLOCKS / 2) {
+        places.push(*first)?;
+        places.push(*second)?;
     }
     Ok(places)
 }
 
-fn interleaved(heap: Global, even: &[usize], odd: &[usize]) -> Result<Vec<usize>, AllocError> {
-    let mut places = Vec::new(heap);
-    for (first, second) in even.iter().zip(odd) {
-        if places.len() < MOST_BLOCKS {
-            places.push(*first)?;
-            places.push(*second)?;
-        }
-    }
-    Ok(places)
-}
-
-fn window(
-    heap: Global,
-    below: &[usize],
-    start: usize,
-    length: usize,
-) -> Result<Vec<usize>, AllocError> {
-    let mut places = Vec::new(heap);
-    for (number, place) in below.iter().enumerate() {
-        if number >= start && number - start < length {
-            places.push(*place)?;
-        }
-    }
-    Ok(places)
-}
-
-// The places of the last of the parts.
+// The places of the last of the parts. A table of no cell or of too many makes a memory without blocks.
 fn places_of(heap: Global, parts: &[Part]) -> Result<Vec<usize>, AllocError> {
     let mut made: Vec<Vec<usize>> = Vec::new(heap);
     let mut next = 0usize;
     for part in parts {
+        let below = made.as_slice();
         let places = match *part {
-            Part::Flat { cells } => {
+            Part::Flat(cells) => {
                 let first = next;
                 next = next.wrapping_add(cells);
-                flat(heap, first, cells)?
+                let end = if cells <= MOST_CELLS { next } else { first };
+                (first..end).collect(heap)?
             }
-            Part::Interleaved { first, second } => interleaved(
+            Part::Interleaved(even, odd) => in_turn(
                 heap,
-                made_at(made.as_slice(), first),
-                made_at(made.as_slice(), second),
+                made_at(below, even),
+                made_at(below, odd),
             )?,
-            Part::Window {
-                start,
-                length,
-                below,
-            } => window(heap, made_at(made.as_slice(), below), start, length)?,
+            Part::Window(start, length, part) => {
+                made_at(below, part)
+                    .iter()
+                    .skip(start)
+                    .take(length)
+                    .copied()
+                    .collect(heap)?
+            }
         };
         made.push(places)?;
     }
-    match made.pop() {
-        Some(places) => Ok(places),
-        None => Ok(Vec::new(heap)),
-    }
+    Ok(made.pop().unwrap_or(Vec::new(heap)))
 }
 
 impl Store {
@@ -105,23 +79,23 @@ impl Store {
 
     /// The stamp of a valid block; nothing where the block is stale, or the memory lacks it.
     pub(crate) fn ask(&self, block: usize) -> Option<u64> {
-        let place = *self.places.get(block)?;
-        let cell = *self.cells.get(place)?;
+        let cell = *self.cells.get(*self.places.get(block)?)?;
         if cell.valid { Some(cell.stamp) } else { None }
     }
 
+    fn cell(&mut self, block: usize) -> Option<&mut Cell> {
+        let place = *self.places.get(block)?;
+        self.cells.get_mut(place)
+    }
+
     pub(crate) fn store(&mut self, block: usize, stamp: u64) {
-        if let Some(place) = self.places.get(block).copied()
-            && let Some(cell) = self.cells.get_mut(place)
-        {
+        if let Some(cell) = self.cell(block) {
             *cell = Cell { valid: true, stamp };
         }
     }
 
     pub(crate) fn stale(&mut self, block: usize) {
-        if let Some(place) = self.places.get(block).copied()
-            && let Some(cell) = self.cells.get_mut(place)
-        {
+        if let Some(cell) = self.cell(block) {
             cell.valid = false;
         }
     }

@@ -3,7 +3,7 @@
 use crate::calls::{Turn, Word};
 use crate::machine::{Cell, Machine};
 use crate::playing::Study;
-use crate::reading::{Fault, Form, Layer, REFERENCES, Reader, Stop, UNPLACED};
+use crate::reading::{Fault, Form, REFERENCES, Reader, Stop, UNPLACED};
 use std::alloc::{AllocError, Global};
 
 /// A report's text, what the cells of the memory hold afterwards, and the figure, if there is one.
@@ -14,15 +14,11 @@ pub struct Report {
     pub figure: Option<u64>,
 }
 
-/// What is read, and how its report is told.
+/// What is read: a scenario, or the placement and the schedule of a side, which has a name.
 #[derive(Clone, Copy)]
 pub(crate) enum Source<'a> {
     Scenario(&'a [u8]),
-    Side {
-        name: &'a str,
-        placement: &'a [u8],
-        schedule: &'a [u8],
-    },
+    Side(&'a str, &'a [u8], &'a [u8]),
 }
 
 fn name_of(word: Word) -> &'static str {
@@ -38,23 +34,23 @@ fn name_of(word: Word) -> &'static str {
 }
 
 fn tell_fault(out: &mut String, fault: Fault) -> Result<(), AllocError> {
-    let text = match fault.form {
+    let Fault {
+        form,
+        line,
+        field,
+        number,
+    } = fault;
+    let file = match form {
         Form::Scenario => "",
         Form::Placement => "placement\t",
         Form::Schedule => "schedule\t",
     };
-    let layer = match fault.layer {
-        Layer::Text => "text",
-        Layer::Layout => "layout",
-        Layer::Study => "study",
+    let layer = match number {
+        14 | 20 | 21 => "layout",
+        15..=19 => "text",
+        _ => "study",
     };
-    let Fault {
-        line,
-        field,
-        number,
-        ..
-    } = fault;
-    write!(out, "fault\t{text}{layer}\t{line}\t{field}\t{number}")
+    write!(out, "fault\t{file}{layer}\t{line}\t{field}\t{number}")
 }
 
 fn tell_turn(out: &mut String, source: Source, place: usize, turn: Turn) -> Result<(), AllocError> {
@@ -65,10 +61,10 @@ fn tell_turn(out: &mut String, source: Source, place: usize, turn: Turn) -> Resu
             let word = name_of(word);
             write!(out, "{number}\t{word}\t{value}\t{total}\n")
         }
-        Source::Side { name, .. } if word == Word::Refused => {
+        Source::Side(name, _, _) if word == Word::Refused => {
             write!(out, "{name}\trefused\t{number}\t{value}\n")
         }
-        Source::Side { .. } => Ok(()),
+        Source::Side(_, _, _) => Ok(()),
     }
 }
 
@@ -85,52 +81,36 @@ fn tell_quote(out: &mut String, study: &Study) -> Result<(), AllocError> {
 fn tell_name(out: &mut String, source: Source) -> Result<(), AllocError> {
     match source {
         Source::Scenario(_) => Ok(()),
-        Source::Side { name, .. } => write!(out, "{name}\t"),
+        Source::Side(name, _, _) => write!(out, "{name}\t"),
     }
 }
 
-// Which text has a fault in the table that was lent, and which one in the machine.
+// The first of the texts and the last. A wrong table is a fault of the first, a wrong machine one of the last.
 fn forms_of(source: Source) -> (Form, Form) {
     match source {
         Source::Scenario(_) => (Form::Scenario, Form::Scenario),
-        Source::Side { .. } => (Form::Placement, Form::Schedule),
+        Source::Side(_, _, _) => (Form::Placement, Form::Schedule),
     }
 }
 
 fn read(reader: &mut Reader, source: Source, entries: usize) -> Result<(), Stop> {
     if entries != REFERENCES {
-        return Err(Stop::at(forms_of(source).0, Layer::Layout, 0, 0, 14));
+        return Err(Stop::at(forms_of(source).0, 0, 0, 14));
     }
     match source {
         Source::Scenario(text) => reader.read(Form::Scenario, text),
-        Source::Side {
-            placement,
-            schedule,
-            ..
-        } => {
+        Source::Side(_, placement, schedule) => {
             reader.read(Form::Placement, placement)?;
             reader.read(Form::Schedule, schedule)
         }
     }
 }
 
-// The fault of a text that was read well, if the study cannot be opened.
-fn fault_to_open(source: Source, study: &Study) -> Option<Fault> {
-    match study.refusal_to_open() {
-        0 => None,
-        number => Some(Fault {
-            form: forms_of(source).1,
-            layer: Layer::Study,
-            line: 1,
-            field: 0,
-            number,
-        }),
-    }
-}
-
-fn unplace(layout: &mut [u32]) {
-    for entry in layout.iter_mut() {
-        *entry = UNPLACED;
+// Opens the study of a text that was read well.
+fn open(study: &mut Study, source: Source) -> Result<(), Stop> {
+    match study.open() {
+        0 => Ok(()),
+        number => Err(Stop::at(forms_of(source).1, 1, 0, number)),
     }
 }
 
@@ -150,29 +130,28 @@ pub(crate) fn tell(
     let mut reader = Reader::new(heap)?;
     let outcome = read(&mut reader, source, layout.len());
     let mut study = Study::new(heap, machine, reader.weights)?;
-    let fault = match outcome {
-        Ok(()) => fault_to_open(source, &study),
-        Err(Stop::Fault(fault)) => Some(fault),
-        Err(Stop::NoMemory) => return Err(AllocError),
-    };
+    let outcome = outcome.and_then(|_| open(&mut study, source));
     let mut text = String::new(heap);
     let mut figure = None;
-    if let Some(fault) = fault {
-        if fault.number != 14 {
-            unplace(layout);
+    match outcome {
+        Ok(()) => {
+            fill(layout, reader.layout.as_slice());
+            for (place, call) in reader.steps.iter().enumerate() {
+                let turn = study.step(*call)?;
+                tell_turn(&mut text, source, place, turn)?;
+            }
+            tell_name(&mut text, source)?;
+            tell_quote(&mut text, &study)?;
+            figure = study.figure();
         }
-        tell_name(&mut text, source)?;
-        tell_fault(&mut text, fault)?;
-    } else {
-        fill(layout, reader.layout.as_slice());
-        study.open();
-        for (place, call) in reader.steps.iter().enumerate() {
-            let turn = study.step(*call)?;
-            tell_turn(&mut text, source, place, turn)?;
+        Err(Stop::Fault(fault)) => {
+            if fault.number != 14 {
+                fill(layout, &[UNPLACED; REFERENCES]);
+            }
+            tell_name(&mut text, source)?;
+            tell_fault(&mut text, fault)?;
         }
-        tell_name(&mut text, source)?;
-        tell_quote(&mut text, &study)?;
-        figure = study.figure();
+        Err(Stop::NoMemory) => return Err(AllocError),
     }
     Ok(Report {
         text: text.into_bytes(),
