@@ -1,6 +1,6 @@
 //! What is said to a study, and what it answers.
 
-#[derive(Clone, Copy, PartialEq, Eq)]
+#[derive(Clone, Copy, PartialEq, Eq, Debug)]
 pub enum Kind {
     Read,
     Write,
@@ -17,14 +17,14 @@ impl Kind {
 }
 
 /// A call of a core. Fetch and resume have no use for the block.
-#[derive(Clone, Copy)]
+#[derive(Clone, Copy, Debug)]
 pub struct Call {
     pub kind: Kind,
     pub core: usize,
     pub block: usize,
 }
 
-#[derive(Clone, Copy, PartialEq, Eq)]
+#[derive(Clone, Copy, PartialEq, Eq, Debug)]
 pub enum Word {
     Waits,
     Brought,
@@ -36,7 +36,7 @@ pub enum Word {
 }
 
 /// What became of a call: its word, a value that goes with the word, and the total of all charges after it.
-#[derive(Clone, Copy, PartialEq, Eq)]
+#[derive(Clone, Copy, PartialEq, Eq, Debug)]
 pub struct Turn {
     pub word: Word,
     pub value: u64,

@@ -1,7 +1,7 @@
 //! A machine as plain data: levels of cores, cells of memory, and how the memory is made of them.
 
 /// One level of a core's caches. A size that is out of range stands for one line.
-#[derive(Clone, Copy)]
+#[derive(Clone, Copy, Debug)]
 pub enum Level {
     /// 1 to 64 lines.
     Direct(usize),
@@ -14,14 +14,14 @@ pub enum Level {
 }
 
 /// What a table of memory holds of a block.
-#[derive(Clone, Copy, PartialEq, Eq)]
+#[derive(Clone, Copy, PartialEq, Eq, Debug)]
 pub struct Cell {
     pub valid: bool,
     pub stamp: u64,
 }
 
 /// A memory over cells, or over parts that stand before it in their list.
-#[derive(Clone, Copy)]
+#[derive(Clone, Copy, Debug)]
 pub enum Part {
     /// The next so many cells, which no earlier part took.
     Flat(usize),

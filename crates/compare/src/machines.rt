@@ -1,0 +1,251 @@
+//! The machines of each kind, over the cells that are lent.
+
+use crate::build::{Rowed, Stored, beside, core, direct, flat, interleaved, pile, sets, window};
+use crate::job::{Job, Told};
+use crate::kinds::Kind;
+use crate::proved;
+use crate::random::Random;
+use crate::rows::{
+    a_direct, a_queue, a_recent, eight_small, five_left, five_right, four_left, four_odd, some_sets,
+    three_odd,
+};
+use interleaved::Interleaved;
+use machine::two_cores;
+use memory::Memory;
+use memory::cell::Cell;
+use memory::flat::Flat;
+use reference::machine::{Level, Part};
+use row::Row;
+use std::alloc::{AllocError, Global};
+
+/// What the simulator told, and the description of the machine that it ran on.
+#[derive(Drop)]
+pub(crate) struct Tried {
+    pub(crate) told: Told,
+    pub(crate) cores: Vec<Vec<Level>>,
+    pub(crate) parts: Vec<Part>,
+}
+
+/// What a try has to do: a job, with the layout table that is lent to it.
+#[derive(Drop)]
+pub(crate) struct Task<'a> {
+    pub(crate) heap: Global,
+    pub(crate) random: Random,
+    pub(crate) layout: &'a mut [u32],
+    pub(crate) job: Job<'a>,
+}
+
+fn run<R: Row + Drop, M: Memory + Drop>(
+    task: Task,
+    rowed: Rowed<R>,
+    stored: Stored<M>,
+) -> Result<Tried, AllocError> {
+    let Task {
+        heap,
+        random: _,
+        layout,
+        job,
+    } = task;
+    let Rowed { row, cores } = rowed;
+    let Stored { memory, parts } = stored;
+    let told = proved::play(heap, row, memory, layout, job)?;
+    Ok(Tried { told, cores, parts })
+}
+
+// Cuts a table in two, each of at least one cell where there are two.
+fn cut<'a>(random: &mut Random, cells: &'a mut [Cell]) -> (&'a mut [Cell], &'a mut [Cell]) {
+    let most = cells.len();
+    let at = random.among(1, most.saturating_sub(1)).min(most);
+    cells.split_at_mut(at)
+}
+
+fn halves<'a>(cells: &'a mut [Cell]) -> (&'a mut [Cell], &'a mut [Cell]) {
+    let at = cells.len() / 2;
+    cells.split_at_mut(at)
+}
+
+fn mcsim(task: Task, cells: &mut [Cell]) -> Result<Tried, AllocError> {
+    let heap = task.heap;
+    let mut described = Vec::new(heap);
+    for _ in 0..2 {
+        described.push(vec![in heap; Level::Direct(2), Level::Sets(2, 2)]?)?;
+    }
+    let rowed = Rowed {
+        row: two_cores(heap)?,
+        cores: described,
+    };
+    run(task, rowed, flat(heap, cells)?)
+}
+
+fn one_line(task: Task, cells: &mut [Cell]) -> Result<Tried, AllocError> {
+    let heap = task.heap;
+    run(task, core(heap, direct(heap, 1)?)?, flat(heap, cells)?)
+}
+
+fn one(mut task: Task, cells: &mut [Cell]) -> Result<Tried, AllocError> {
+    let heap = task.heap;
+    let random = &mut task.random;
+    let start = random.below(3) as u32;
+    let length = random.among(1, 50) as u32;
+    let rowed = core(heap, a_direct(heap, random)?)?;
+    run(task, rowed, window(flat(heap, cells)?, start, length)?)
+}
+
+fn two(mut task: Task, cells: &mut [Cell]) -> Result<Tried, AllocError> {
+    let heap = task.heap;
+    let random = &mut task.random;
+    let first = core(heap, a_queue(heap, random)?)?;
+    let second = core(heap, some_sets(heap, random)?)?;
+    let (even, odd) = cut(random, cells);
+    let stored = interleaved(flat(heap, even)?, flat(heap, odd)?)?;
+    run(task, beside(first, second)?, stored)
+}
+
+fn mixed(mut task: Task, cells: &mut [Cell]) -> Result<Tried, AllocError> {
+    let heap = task.heap;
+    let random = &mut task.random;
+    let start = random.below(3) as u32;
+    let first = core(heap, a_direct(heap, random)?)?;
+    let last = beside(core(heap, a_recent(heap, random)?)?, core(heap, a_queue(heap, random)?)?)?;
+    let (even, odd) = halves(cells);
+    let below = interleaved(flat(heap, even)?, flat(heap, odd)?)?;
+    run(task, beside(first, last)?, window(below, start, u32::MAX)?)
+}
+
+fn piles(mut task: Task, cells: &mut [Cell]) -> Result<Tried, AllocError> {
+    let heap = task.heap;
+    let random = &mut task.random;
+    let first = core(heap, pile(a_queue(heap, random)?, a_direct(heap, random)?)?)?;
+    let second = core(heap, pile(some_sets(heap, random)?, a_queue(heap, random)?)?)?;
+    let third = core(heap, pile(a_recent(heap, random)?, some_sets(heap, random)?)?)?;
+    let (even, odd) = cut(random, cells);
+    let even = window(flat(heap, even)?, 0, random.among(1, 20) as u32)?;
+    let odd = window(flat(heap, odd)?, 0, random.among(1, 20) as u32)?;
+    run(task, beside(beside(first, second)?, third)?, interleaved(even, odd)?)
+}
+
+fn nested(mut task: Task, cells: &mut [Cell]) -> Result<Tried, AllocError> {
+    let heap = task.heap;
+    let random = &mut task.random;
+    let rowed = beside(four_odd(heap, random)?, four_left(heap, random)?)?;
+    let (even, odd) = halves(cells);
+    let odd = window(window(flat(heap, odd)?, 1, u32::MAX)?, 0, 9)?;
+    let below = interleaved(flat(heap, even)?, odd)?;
+    run(task, rowed, window(below, 0, u32::MAX)?)
+}
+
+fn deep(mut task: Task, cells: &mut [Cell]) -> Result<Tried, AllocError> {
+    let heap = task.heap;
+    let random = &mut task.random;
+    let rowed = beside(five_right(heap, random)?, five_left(heap, random)?)?;
+    run(task, rowed, flat(heap, cells)?)
+}
+
+fn eight(mut task: Task, cells: &mut [Cell]) -> Result<Tried, AllocError> {
+    let heap = task.heap;
+    let rowed = eight_small(heap, &mut task.random)?;
+    let (first, rest) = halves(cells);
+    let (second, third) = halves(rest);
+    let odd = interleaved(flat(heap, second)?, flat(heap, third)?)?;
+    run(task, rowed, interleaved(flat(heap, first)?, odd)?)
+}
+
+fn nine(mut task: Task, cells: &mut [Cell]) -> Result<Tried, AllocError> {
+    let heap = task.heap;
+    let random = &mut task.random;
+    let rowed = beside(eight_small(heap, random)?, core(heap, a_direct(heap, random)?)?)?;
+    run(task, rowed, flat(heap, cells)?)
+}
+
+fn sixteen(mut task: Task, cells: &mut [Cell]) -> Result<Tried, AllocError> {
+    let heap = task.heap;
+    let random = &mut task.random;
+    let rowed = beside(eight_small(heap, random)?, eight_small(heap, random)?)?;
+    run(task, rowed, window(flat(heap, cells)?, 9_999, 1)?)
+}
+
+fn beyond(mut task: Task, cells: &mut [Cell]) -> Result<Tried, AllocError> {
+    let heap = task.heap;
+    let random = &mut task.random;
+    let length = if random.once_in(2) { u32::MAX } else { 0 };
+    let start = if length > 0 { random.among(40, 4_294_967_295) as u32 } else { 0 };
+    let rowed = beside(core(heap, three_odd(heap, random)?)?, core(heap, a_queue(heap, random)?)?)?;
+    run(task, rowed, window(flat(heap, cells)?, start, length)?)
+}
+
+// A table that makes a memory without blocks, whose cells stay as they are.
+fn wrong_table(mut task: Task, cells: &mut [Cell]) -> Result<Tried, AllocError> {
+    let heap = task.heap;
+    let random = &mut task.random;
+    let rowed = beside(core(heap, some_sets(heap, random)?)?, core(heap, sets(heap, 1, 1)?)?)?;
+    run(task, rowed, flat(heap, cells)?)
+}
+
+fn halved(mut task: Task, cells: &mut [Cell]) -> Result<Tried, AllocError> {
+    let heap = task.heap;
+    let random = &mut task.random;
+    let rowed = beside(core(heap, a_direct(heap, random)?)?, core(heap, a_direct(heap, random)?)?)?;
+    let (even, odd) = cut(random, cells);
+    let none = window(flat(heap, odd)?, 0, 0)?;
+    run(task, rowed, interleaved(flat(heap, even)?, none)?)
+}
+
+type Stored2<'a> = Interleaved<Flat<'a>, Flat<'a>>;
+type Stored4<'a> = Interleaved<Stored2<'a>, Stored2<'a>>;
+type Stored8<'a> = Interleaved<Stored4<'a>, Stored4<'a>>;
+type Stored16<'a> = Interleaved<Stored8<'a>, Stored8<'a>>;
+type Stored32<'a> = Interleaved<Stored16<'a>, Stored16<'a>>;
+
+fn stored_2<'a>(heap: Global, cells: &'a mut [Cell]) -> Result<Stored<Stored2<'a>>, AllocError> {
+    let (even, odd) = halves(cells);
+    interleaved(flat(heap, even)?, flat(heap, odd)?)
+}
+
+fn stored_4<'a>(heap: Global, cells: &'a mut [Cell]) -> Result<Stored<Stored4<'a>>, AllocError> {
+    let (even, odd) = halves(cells);
+    interleaved(stored_2(heap, even)?, stored_2(heap, odd)?)
+}
+
+fn stored_8<'a>(heap: Global, cells: &'a mut [Cell]) -> Result<Stored<Stored8<'a>>, AllocError> {
+    let (even, odd) = halves(cells);
+    interleaved(stored_4(heap, even)?, stored_4(heap, odd)?)
+}
+
+fn stored_16<'a>(heap: Global, cells: &'a mut [Cell]) -> Result<Stored<Stored16<'a>>, AllocError> {
+    let (even, odd) = halves(cells);
+    interleaved(stored_8(heap, even)?, stored_8(heap, odd)?)
+}
+
+fn stored_32<'a>(heap: Global, cells: &'a mut [Cell]) -> Result<Stored<Stored32<'a>>, AllocError> {
+    let (even, odd) = halves(cells);
+    interleaved(stored_16(heap, even)?, stored_16(heap, odd)?)
+}
+
+// Of 131,072 blocks half are out of reach.
+fn largest(mut task: Task, cells: &mut [Cell]) -> Result<Tried, AllocError> {
+    let heap = task.heap;
+    let random = &mut task.random;
+    let rowed = beside(core(heap, direct(heap, 64)?)?, core(heap, some_sets(heap, random)?)?)?;
+    run(task, rowed, stored_32(heap, cells)?)
+}
+
+/// Tries a job on a machine of a kind.
+pub(crate) fn try_on(task: Task, kind: Kind, cells: &mut [Cell]) -> Result<Tried, AllocError> {
+    match kind {
+        Kind::Mcsim => mcsim(task, cells),
+        Kind::OneLine => one_line(task, cells),
+        Kind::One => one(task, cells),
+        Kind::Two => two(task, cells),
+        Kind::Mixed => mixed(task, cells),
+        Kind::Piles => piles(task, cells),
+        Kind::Nested => nested(task, cells),
+        Kind::Deep => deep(task, cells),
+        Kind::Eight => eight(task, cells),
+        Kind::Nine => nine(task, cells),
+        Kind::Sixteen => sixteen(task, cells),
+        Kind::Beyond => beyond(task, cells),
+        Kind::NoTable | Kind::LongTable => wrong_table(task, cells),
+        Kind::Halved => halved(task, cells),
+        Kind::Largest => largest(task, cells),
+    }
+}
