@@ -48,13 +48,34 @@ fn a_line(random: &mut Random, text: &[u8]) -> (usize, usize) {
 fn a_number(random: &mut Random, text: &[u8]) -> (usize, usize) {
     let start = spot(random, text, b'\t').wrapping_add(1).min(text.len());
     let rest = text.get(start..).unwrap_or(&[]);
-    let length = rest.iter().position(|byte| *byte == b'\t' || *byte == b'\n').unwrap_or(rest.len());
+    let length = rest
+        .iter()
+        .position(|byte| *byte == b'\t' || *byte == b'\n')
+        .unwrap_or(rest.len());
     (start, start.wrapping_add(length))
 }
 
 const NUMBERS: [&[u8]; 20] = [
-    b"0", b"1", b"7", b"15", b"16", b"255", b"256", b"257", b"1000", b"1001", b"2000", b"9999", b"65535",
-    b"65536", b"99999", b"100000", b"18446744073709551616", b"", b"-0", b"1e3",
+    b"0",
+    b"1",
+    b"7",
+    b"15",
+    b"16",
+    b"255",
+    b"256",
+    b"257",
+    b"1000",
+    b"1001",
+    b"2000",
+    b"9999",
+    b"65535",
+    b"65536",
+    b"99999",
+    b"100000",
+    b"18446744073709551616",
+    b"",
+    b"-0",
+    b"1e3",
 ];
 
 const BYTES: &[u8] = b"\t\n\r 019+-abtw\x00\x0b\xff";
@@ -111,16 +132,40 @@ pub(crate) fn damaged(
         10 => splice(heap, text, (number.0, number.0), b"+"),
         11 => splice(heap, text, (number.1, number.1), b" "),
         12 | 13 => {
-            let other = NUMBERS.get(random.below(NUMBERS.len())).copied().unwrap_or(b"");
+            let other = NUMBERS
+                .get(random.below(NUMBERS.len()))
+                .copied()
+                .unwrap_or(b"");
             splice(heap, text, number, other)
         }
         14 => drawn_out(heap, random, text),
         15 => splice(heap, text, (place, text.len()), &[]),
         16 => splice(heap, text, (text.len().saturating_sub(1), text.len()), &[]),
         17 => {
-            let other = LINES.get(random.below(LINES.len())).copied().unwrap_or(b"\n");
+            let other = LINES
+                .get(random.below(LINES.len()))
+                .copied()
+                .unwrap_or(b"\n");
             splice(heap, text, (line.0, line.0), other)
         }
-        _ => splice(heap, text, (line.0, line.0.wrapping_add(1).min(text.len())), &[byte | 32]),
+        _ => splice(
+            heap,
+            text,
+            (line.0, line.0.wrapping_add(1).min(text.len())),
+            &[byte | 32],
+        ),
     }
+}
+
+/// The text with one or two damages.
+pub(crate) fn spoilt(
+    heap: Global,
+    random: &mut Random,
+    text: &[u8],
+) -> Result<Vec<u8>, AllocError> {
+    let once = damaged(heap, random, text)?;
+    if random.once_in(3) {
+        return damaged(heap, random, once.as_slice());
+    }
+    Ok(once)
 }

@@ -3,7 +3,7 @@
 
 use crate::job::{Job, Told, summary};
 use crate::kinds::Kind;
-use crate::machines::{Task, Tried, try_on};
+use crate::machines::{Tried, try_on};
 use crate::random::Random;
 use memory::cell::{Cell, State};
 use reference::machine::{self, Machine};
@@ -16,6 +16,27 @@ pub(crate) struct Case<'a> {
     pub(crate) seed: u64,
     pub(crate) entries: usize,
     pub(crate) job: Job<'a>,
+}
+
+/// How many entries a layout table should have.
+const ENTRIES: usize = 256;
+
+impl<'a> Case<'a> {
+    /// A case with a layout table of the right length.
+    pub(crate) fn new(kind: Kind, seed: u64, job: Job<'a>) -> Case<'a> {
+        let entries = ENTRIES;
+        Case {
+            kind,
+            seed,
+            entries,
+            job,
+        }
+    }
+
+    /// The case with a layout table of so many entries.
+    pub(crate) fn with_entries(self, entries: usize) -> Case<'a> {
+        Case { entries, ..self }
+    }
 }
 
 /// What both told and left.
@@ -49,8 +70,12 @@ fn old_cells(heap: Global, random: &mut Random, kind: Kind) -> Result<Vec<Cell>,
     let count = random.among(least, most);
     let mut cells = Vec::new(heap);
     for _ in 0..count {
-        let state = if random.once_in(2) { State::Stale } else { State::Valid };
-        let stamp = random.below(4_294_967_296) as u32;
+        let state = if random.once_in(2) {
+            State::Stale
+        } else {
+            State::Valid
+        };
+        let stamp = random.word(0, 4_294_967_295);
         cells.push(Cell { state, stamp })?;
     }
     Ok(cells)
@@ -77,7 +102,11 @@ fn play_again(
     if let Job::Calls(weights, calls) = job {
         let weights = weights.map(|weight| u64::from(weight));
         let played = reference::play(heap, machine, weights, calls)?;
-        let accesses = if played.refusal > 0 { 0 } else { played.accesses };
+        let accesses = if played.refusal > 0 {
+            0
+        } else {
+            played.accesses
+        };
         let figure = played.figure;
         let told = Told {
             text: summary(heap, played.refusal, accesses, figure)?,
@@ -108,18 +137,23 @@ pub(crate) fn judge(heap: Global, case: Case) -> Result<Outcome, AllocError> {
     let before = told_of(heap, cells.as_slice())?;
     let mut layout = Vec::new(heap);
     for _ in 0..case.entries {
-        layout.push(random.below(70_000) as u32)?;
+        layout.push(random.word(0, 70_000))?;
     }
     let mut layout_again = layout.clone()?;
-    let task = Task {
+    let Tried {
+        told,
+        cores: described,
+        parts,
+    } = try_on(
+        case.kind,
         heap,
-        random,
-        layout: layout.as_mut_slice(),
-        job: case.job,
-    };
-    let Tried { told, cores, parts } = try_on(task, case.kind, cells.as_mut_slice())?;
+        &mut random,
+        cells.as_mut_slice(),
+        layout.as_mut_slice(),
+        case.job,
+    )?;
     let machine = Machine {
-        cores,
+        cores: described,
         parts,
         cells: before,
     };

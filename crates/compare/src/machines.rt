@@ -6,8 +6,8 @@ use crate::kinds::Kind;
 use crate::proved;
 use crate::random::Random;
 use crate::rows::{
-    a_direct, a_queue, a_recent, eight_small, five_left, five_right, four_left, four_odd, some_sets,
-    three_odd,
+    a_direct, a_queue, a_recent, eight_small, five_left, five_right, four_left, four_odd,
+    some_sets, three_odd,
 };
 use interleaved::Interleaved;
 use machine::two_cores;
@@ -26,26 +26,13 @@ pub(crate) struct Tried {
     pub(crate) parts: Vec<Part>,
 }
 
-/// What a try has to do: a job, with the layout table that is lent to it.
-#[derive(Drop)]
-pub(crate) struct Task<'a> {
-    pub(crate) heap: Global,
-    pub(crate) random: Random,
-    pub(crate) layout: &'a mut [u32],
-    pub(crate) job: Job<'a>,
-}
-
 fn run<R: Row + Drop, M: Memory + Drop>(
-    task: Task,
     rowed: Rowed<R>,
     stored: Stored<M>,
+    heap: Global,
+    layout: &mut [u32],
+    job: Job,
 ) -> Result<Tried, AllocError> {
-    let Task {
-        heap,
-        random: _,
-        layout,
-        job,
-    } = task;
     let Rowed { row, cores } = rowed;
     let Stored { memory, parts } = stored;
     let told = proved::play(heap, row, memory, layout, job)?;
@@ -64,8 +51,12 @@ fn halves<'a>(cells: &'a mut [Cell]) -> (&'a mut [Cell], &'a mut [Cell]) {
     cells.split_at_mut(at)
 }
 
-fn mcsim(task: Task, cells: &mut [Cell]) -> Result<Tried, AllocError> {
-    let heap = task.heap;
+fn mcsim(
+    heap: Global,
+    cells: &mut [Cell],
+    layout: &mut [u32],
+    job: Job,
+) -> Result<Tried, AllocError> {
     let mut described = Vec::new(heap);
     for _ in 0..2 {
         described.push(vec![in heap; Level::Direct(2), Level::Sets(2, 2)]?)?;
@@ -74,126 +65,256 @@ fn mcsim(task: Task, cells: &mut [Cell]) -> Result<Tried, AllocError> {
         row: two_cores(heap)?,
         cores: described,
     };
-    run(task, rowed, flat(heap, cells)?)
+    run(rowed, flat(heap, cells)?, heap, layout, job)
 }
 
-fn one_line(task: Task, cells: &mut [Cell]) -> Result<Tried, AllocError> {
-    let heap = task.heap;
-    run(task, core(heap, direct(heap, 1)?)?, flat(heap, cells)?)
+fn one_line(
+    heap: Global,
+    cells: &mut [Cell],
+    layout: &mut [u32],
+    job: Job,
+) -> Result<Tried, AllocError> {
+    run(
+        core(heap, direct(heap, 1)?)?,
+        flat(heap, cells)?,
+        heap,
+        layout,
+        job,
+    )
 }
 
-fn one(mut task: Task, cells: &mut [Cell]) -> Result<Tried, AllocError> {
-    let heap = task.heap;
-    let random = &mut task.random;
-    let start = random.below(3) as u32;
-    let length = random.among(1, 50) as u32;
+fn one(
+    heap: Global,
+    random: &mut Random,
+    cells: &mut [Cell],
+    layout: &mut [u32],
+    job: Job,
+) -> Result<Tried, AllocError> {
+    let start = random.word(0, 2);
+    let length = random.word(1, 50);
     let rowed = core(heap, a_direct(heap, random)?)?;
-    run(task, rowed, window(flat(heap, cells)?, start, length)?)
+    run(
+        rowed,
+        window(flat(heap, cells)?, start, length)?,
+        heap,
+        layout,
+        job,
+    )
 }
 
-fn two(mut task: Task, cells: &mut [Cell]) -> Result<Tried, AllocError> {
-    let heap = task.heap;
-    let random = &mut task.random;
+fn two(
+    heap: Global,
+    random: &mut Random,
+    cells: &mut [Cell],
+    layout: &mut [u32],
+    job: Job,
+) -> Result<Tried, AllocError> {
     let first = core(heap, a_queue(heap, random)?)?;
     let second = core(heap, some_sets(heap, random)?)?;
     let (even, odd) = cut(random, cells);
     let stored = interleaved(flat(heap, even)?, flat(heap, odd)?)?;
-    run(task, beside(first, second)?, stored)
+    run(beside(first, second)?, stored, heap, layout, job)
 }
 
-fn mixed(mut task: Task, cells: &mut [Cell]) -> Result<Tried, AllocError> {
-    let heap = task.heap;
-    let random = &mut task.random;
-    let start = random.below(3) as u32;
+fn mixed(
+    heap: Global,
+    random: &mut Random,
+    cells: &mut [Cell],
+    layout: &mut [u32],
+    job: Job,
+) -> Result<Tried, AllocError> {
+    let start = random.word(0, 2);
     let first = core(heap, a_direct(heap, random)?)?;
-    let last = beside(core(heap, a_recent(heap, random)?)?, core(heap, a_queue(heap, random)?)?)?;
+    let last = beside(
+        core(heap, a_recent(heap, random)?)?,
+        core(heap, a_queue(heap, random)?)?,
+    )?;
     let (even, odd) = halves(cells);
     let below = interleaved(flat(heap, even)?, flat(heap, odd)?)?;
-    run(task, beside(first, last)?, window(below, start, u32::MAX)?)
+    run(
+        beside(first, last)?,
+        window(below, start, u32::MAX)?,
+        heap,
+        layout,
+        job,
+    )
 }
 
-fn piles(mut task: Task, cells: &mut [Cell]) -> Result<Tried, AllocError> {
-    let heap = task.heap;
-    let random = &mut task.random;
+fn piles(
+    heap: Global,
+    random: &mut Random,
+    cells: &mut [Cell],
+    layout: &mut [u32],
+    job: Job,
+) -> Result<Tried, AllocError> {
     let first = core(heap, pile(a_queue(heap, random)?, a_direct(heap, random)?)?)?;
-    let second = core(heap, pile(some_sets(heap, random)?, a_queue(heap, random)?)?)?;
-    let third = core(heap, pile(a_recent(heap, random)?, some_sets(heap, random)?)?)?;
+    let second = core(
+        heap,
+        pile(some_sets(heap, random)?, a_queue(heap, random)?)?,
+    )?;
+    let third = core(
+        heap,
+        pile(a_recent(heap, random)?, some_sets(heap, random)?)?,
+    )?;
     let (even, odd) = cut(random, cells);
-    let even = window(flat(heap, even)?, 0, random.among(1, 20) as u32)?;
-    let odd = window(flat(heap, odd)?, 0, random.among(1, 20) as u32)?;
-    run(task, beside(beside(first, second)?, third)?, interleaved(even, odd)?)
+    let even = window(flat(heap, even)?, 0, random.word(1, 20))?;
+    let odd = window(flat(heap, odd)?, 0, random.word(1, 20))?;
+    run(
+        beside(beside(first, second)?, third)?,
+        interleaved(even, odd)?,
+        heap,
+        layout,
+        job,
+    )
 }
 
-fn nested(mut task: Task, cells: &mut [Cell]) -> Result<Tried, AllocError> {
-    let heap = task.heap;
-    let random = &mut task.random;
+fn nested(
+    heap: Global,
+    random: &mut Random,
+    cells: &mut [Cell],
+    layout: &mut [u32],
+    job: Job,
+) -> Result<Tried, AllocError> {
     let rowed = beside(four_odd(heap, random)?, four_left(heap, random)?)?;
     let (even, odd) = halves(cells);
     let odd = window(window(flat(heap, odd)?, 1, u32::MAX)?, 0, 9)?;
     let below = interleaved(flat(heap, even)?, odd)?;
-    run(task, rowed, window(below, 0, u32::MAX)?)
+    run(rowed, window(below, 0, u32::MAX)?, heap, layout, job)
 }
 
-fn deep(mut task: Task, cells: &mut [Cell]) -> Result<Tried, AllocError> {
-    let heap = task.heap;
-    let random = &mut task.random;
+fn deep(
+    heap: Global,
+    random: &mut Random,
+    cells: &mut [Cell],
+    layout: &mut [u32],
+    job: Job,
+) -> Result<Tried, AllocError> {
     let rowed = beside(five_right(heap, random)?, five_left(heap, random)?)?;
-    run(task, rowed, flat(heap, cells)?)
+    run(rowed, flat(heap, cells)?, heap, layout, job)
 }
 
-fn eight(mut task: Task, cells: &mut [Cell]) -> Result<Tried, AllocError> {
-    let heap = task.heap;
-    let rowed = eight_small(heap, &mut task.random)?;
+fn eight(
+    heap: Global,
+    random: &mut Random,
+    cells: &mut [Cell],
+    layout: &mut [u32],
+    job: Job,
+) -> Result<Tried, AllocError> {
+    let rowed = eight_small(heap, random)?;
     let (first, rest) = halves(cells);
     let (second, third) = halves(rest);
     let odd = interleaved(flat(heap, second)?, flat(heap, third)?)?;
-    run(task, rowed, interleaved(flat(heap, first)?, odd)?)
+    run(
+        rowed,
+        interleaved(flat(heap, first)?, odd)?,
+        heap,
+        layout,
+        job,
+    )
 }
 
-fn nine(mut task: Task, cells: &mut [Cell]) -> Result<Tried, AllocError> {
-    let heap = task.heap;
-    let random = &mut task.random;
-    let rowed = beside(eight_small(heap, random)?, core(heap, a_direct(heap, random)?)?)?;
-    run(task, rowed, flat(heap, cells)?)
+fn nine(
+    heap: Global,
+    random: &mut Random,
+    cells: &mut [Cell],
+    layout: &mut [u32],
+    job: Job,
+) -> Result<Tried, AllocError> {
+    let rowed = beside(
+        eight_small(heap, random)?,
+        core(heap, a_direct(heap, random)?)?,
+    )?;
+    run(rowed, flat(heap, cells)?, heap, layout, job)
 }
 
-fn sixteen(mut task: Task, cells: &mut [Cell]) -> Result<Tried, AllocError> {
-    let heap = task.heap;
-    let random = &mut task.random;
+fn sixteen(
+    heap: Global,
+    random: &mut Random,
+    cells: &mut [Cell],
+    layout: &mut [u32],
+    job: Job,
+) -> Result<Tried, AllocError> {
     let rowed = beside(eight_small(heap, random)?, eight_small(heap, random)?)?;
-    run(task, rowed, window(flat(heap, cells)?, 9_999, 1)?)
+    run(
+        rowed,
+        window(flat(heap, cells)?, 9_999, 1)?,
+        heap,
+        layout,
+        job,
+    )
 }
 
-fn beyond(mut task: Task, cells: &mut [Cell]) -> Result<Tried, AllocError> {
-    let heap = task.heap;
-    let random = &mut task.random;
+fn beyond(
+    heap: Global,
+    random: &mut Random,
+    cells: &mut [Cell],
+    layout: &mut [u32],
+    job: Job,
+) -> Result<Tried, AllocError> {
     let length = if random.once_in(2) { u32::MAX } else { 0 };
-    let start = if length > 0 { random.among(40, 4_294_967_295) as u32 } else { 0 };
-    let rowed = beside(core(heap, three_odd(heap, random)?)?, core(heap, a_queue(heap, random)?)?)?;
-    run(task, rowed, window(flat(heap, cells)?, start, length)?)
+    let start = if length > 0 {
+        random.word(40, 4_294_967_295)
+    } else {
+        0
+    };
+    let rowed = beside(
+        core(heap, three_odd(heap, random)?)?,
+        core(heap, a_queue(heap, random)?)?,
+    )?;
+    run(
+        rowed,
+        window(flat(heap, cells)?, start, length)?,
+        heap,
+        layout,
+        job,
+    )
 }
 
 // A table that makes a memory without blocks, whose cells stay as they are.
-fn wrong_table(mut task: Task, cells: &mut [Cell]) -> Result<Tried, AllocError> {
-    let heap = task.heap;
-    let random = &mut task.random;
-    let rowed = beside(core(heap, some_sets(heap, random)?)?, core(heap, sets(heap, 1, 1)?)?)?;
-    run(task, rowed, flat(heap, cells)?)
+fn wrong_table(
+    heap: Global,
+    random: &mut Random,
+    cells: &mut [Cell],
+    layout: &mut [u32],
+    job: Job,
+) -> Result<Tried, AllocError> {
+    let rowed = beside(
+        core(heap, some_sets(heap, random)?)?,
+        core(heap, sets(heap, 1, 1)?)?,
+    )?;
+    run(rowed, flat(heap, cells)?, heap, layout, job)
 }
 
-fn halved(mut task: Task, cells: &mut [Cell]) -> Result<Tried, AllocError> {
-    let heap = task.heap;
-    let random = &mut task.random;
-    let rowed = beside(core(heap, a_direct(heap, random)?)?, core(heap, a_direct(heap, random)?)?)?;
+fn halved(
+    heap: Global,
+    random: &mut Random,
+    cells: &mut [Cell],
+    layout: &mut [u32],
+    job: Job,
+) -> Result<Tried, AllocError> {
+    let rowed = beside(
+        core(heap, a_direct(heap, random)?)?,
+        core(heap, a_direct(heap, random)?)?,
+    )?;
     let (even, odd) = cut(random, cells);
     let none = window(flat(heap, odd)?, 0, 0)?;
-    run(task, rowed, interleaved(flat(heap, even)?, none)?)
+    run(
+        rowed,
+        interleaved(flat(heap, even)?, none)?,
+        heap,
+        layout,
+        job,
+    )
 }
 
 type Stored2<'a> = Interleaved<Flat<'a>, Flat<'a>>;
+
 type Stored4<'a> = Interleaved<Stored2<'a>, Stored2<'a>>;
+
 type Stored8<'a> = Interleaved<Stored4<'a>, Stored4<'a>>;
+
 type Stored16<'a> = Interleaved<Stored8<'a>, Stored8<'a>>;
+
 type Stored32<'a> = Interleaved<Stored16<'a>, Stored16<'a>>;
 
 fn stored_2<'a>(heap: Global, cells: &'a mut [Cell]) -> Result<Stored<Stored2<'a>>, AllocError> {
@@ -222,30 +343,44 @@ fn stored_32<'a>(heap: Global, cells: &'a mut [Cell]) -> Result<Stored<Stored32<
 }
 
 // Of 131,072 blocks half are out of reach.
-fn largest(mut task: Task, cells: &mut [Cell]) -> Result<Tried, AllocError> {
-    let heap = task.heap;
-    let random = &mut task.random;
-    let rowed = beside(core(heap, direct(heap, 64)?)?, core(heap, some_sets(heap, random)?)?)?;
-    run(task, rowed, stored_32(heap, cells)?)
+fn largest(
+    heap: Global,
+    random: &mut Random,
+    cells: &mut [Cell],
+    layout: &mut [u32],
+    job: Job,
+) -> Result<Tried, AllocError> {
+    let rowed = beside(
+        core(heap, direct(heap, 64)?)?,
+        core(heap, some_sets(heap, random)?)?,
+    )?;
+    run(rowed, stored_32(heap, cells)?, heap, layout, job)
 }
 
 /// Tries a job on a machine of a kind.
-pub(crate) fn try_on(task: Task, kind: Kind, cells: &mut [Cell]) -> Result<Tried, AllocError> {
+pub(crate) fn try_on(
+    kind: Kind,
+    heap: Global,
+    random: &mut Random,
+    cells: &mut [Cell],
+    layout: &mut [u32],
+    job: Job,
+) -> Result<Tried, AllocError> {
     match kind {
-        Kind::Mcsim => mcsim(task, cells),
-        Kind::OneLine => one_line(task, cells),
-        Kind::One => one(task, cells),
-        Kind::Two => two(task, cells),
-        Kind::Mixed => mixed(task, cells),
-        Kind::Piles => piles(task, cells),
-        Kind::Nested => nested(task, cells),
-        Kind::Deep => deep(task, cells),
-        Kind::Eight => eight(task, cells),
-        Kind::Nine => nine(task, cells),
-        Kind::Sixteen => sixteen(task, cells),
-        Kind::Beyond => beyond(task, cells),
-        Kind::NoTable | Kind::LongTable => wrong_table(task, cells),
-        Kind::Halved => halved(task, cells),
-        Kind::Largest => largest(task, cells),
+        Kind::Mcsim => mcsim(heap, cells, layout, job),
+        Kind::OneLine => one_line(heap, cells, layout, job),
+        Kind::One => one(heap, random, cells, layout, job),
+        Kind::Two => two(heap, random, cells, layout, job),
+        Kind::Mixed => mixed(heap, random, cells, layout, job),
+        Kind::Piles => piles(heap, random, cells, layout, job),
+        Kind::Nested => nested(heap, random, cells, layout, job),
+        Kind::Deep => deep(heap, random, cells, layout, job),
+        Kind::Eight => eight(heap, random, cells, layout, job),
+        Kind::Nine => nine(heap, random, cells, layout, job),
+        Kind::Sixteen => sixteen(heap, random, cells, layout, job),
+        Kind::Beyond => beyond(heap, random, cells, layout, job),
+        Kind::NoTable | Kind::LongTable => wrong_table(heap, random, cells, layout, job),
+        Kind::Halved => halved(heap, random, cells, layout, job),
+        Kind::Largest => largest(heap, random, cells, layout, job),
     }
 }

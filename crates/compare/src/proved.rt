@@ -3,9 +3,8 @@
 use crate::job::{Job, Told, summary};
 use crate::temporary;
 use memory::Memory;
-use protocol::answer;
-use protocol::call;
 use protocol::weights::Prices;
+use protocol::{answer, call};
 use reference::calls::{Call, Kind, Turn, Word};
 use row::Row;
 use std::alloc::{AllocError, Global};

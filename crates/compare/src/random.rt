@@ -30,6 +30,11 @@ impl Random {
         self.below(width).saturating_add(least)
     }
 
+    /// The same, in 32 bits.
+    pub(crate) fn word(&mut self, least: usize, most: usize) -> u32 {
+        (self.among(least, most) & 0xffff_ffff) as u32
+    }
+
     /// Whether a chance of one in so many came.
     pub(crate) fn once_in(&mut self, count: usize) -> bool {
         self.below(count) == 0

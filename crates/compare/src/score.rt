@@ -1,7 +1,7 @@
 //! The score: how many cases of a family agree, and the first that does not, in full.
 
-use crate::judge::{Case, Outcome, judge};
 use crate::job::{Job, Told};
+use crate::judge::{Case, Outcome, judge};
 use reference::calls::{Turn, Word};
 use std::io;
 
@@ -69,13 +69,20 @@ fn show_job(rt: &HostRuntime, job: Job) -> io::Result<()> {
 fn show(rt: &HostRuntime, number: usize, case: Case, outcome: &Outcome) -> io::Result<()> {
     let kind = case.kind.name();
     let Case {
-        seed, entries, job, ..
+        seed,
+        entries,
+        job,
+        ..
     } = case;
     println!(rt; "== case {number} differs: on {kind}, seed {seed}, layout of {entries}")?;
     show_job(rt, job)?;
     show_told(rt, "the simulator", &outcome.told)?;
     show_told(rt, "the reference", &outcome.again)?;
-    show_turns(rt, outcome.told.turns.as_slice(), outcome.again.turns.as_slice())?;
+    show_turns(
+        rt,
+        outcome.told.turns.as_slice(),
+        outcome.again.turns.as_slice(),
+    )?;
     let layouts = outcome.layouts.0 == outcome.layouts.1;
     println!(rt; "-- layout tables agree: {layouts}")?;
     if outcome.cells.0 != outcome.cells.1 {
@@ -137,6 +144,8 @@ impl Score {
     /// Tells how many answers of each word the lists of calls had.
     pub(crate) fn tell_words(&self, rt: &HostRuntime) -> io::Result<()> {
         let [waits, brought, read, wrote, flushed, committed, refused] = self.words;
-        println!(rt; "answers to lists of calls\twaits {waits}, brought {brought}, read {read}, wrote {wrote}, flushed {flushed}, committed {committed}, refused {refused}")
+        println!(rt;
+            "answers to lists of calls\twaits {waits}, brought {brought}, read {read}, wrote {wrote}, flushed {flushed}, committed {committed}, refused {refused}"
+        )
     }
 }

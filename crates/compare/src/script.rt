@@ -1,5 +1,6 @@
 //! Scenarios that are drawn: placements, and steps that follow one another so that runs go deep.
 
+use crate::kinds;
 use crate::random::Random;
 use reference::calls::{Call, Kind};
 use std::alloc::{AllocError, Global};
@@ -35,7 +36,7 @@ fn weights(random: &mut Random) -> [u16; 5] {
     let most = if random.once_in(4) { 10 } else { 1_000 };
     let mut weights = [0u16; 5];
     for weight in weights.iter_mut() {
-        *weight = random.among(0, most) as u16;
+        *weight = (random.among(0, most) & 0xffff) as u16;
     }
     weights
 }
@@ -51,7 +52,11 @@ fn places(
     let mut places = Vec::new(heap);
     for number in 0..count {
         let reference = first.wrapping_add(number.wrapping_mul(29)) % 256;
-        let block = if random.once_in(30) { random.below(65_536) } else { random.below(blocks) };
+        let block = if random.once_in(30) {
+            random.below(65_536)
+        } else {
+            random.below(blocks)
+        };
         places.push((reference, block))?;
     }
     Ok(places)
@@ -135,6 +140,22 @@ impl Script {
             places,
             steps,
         })
+    }
+
+    /// A script for a kind of machine, of up to so many steps.
+    pub(crate) fn for_kind(
+        heap: Global,
+        kind: kinds::Kind,
+        seed: u64,
+        steps: usize,
+    ) -> Result<Script, AllocError> {
+        let mut random = Random::new(seed.wrapping_add(1_000_000_007));
+        let size = Size {
+            cores: kind.cores(),
+            blocks: random.among(2, 20),
+            steps: random.among(0, steps),
+        };
+        Script::drawn(heap, &mut random, size)
     }
 
     /// Puts the references into other blocks.

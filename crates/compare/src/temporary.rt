@@ -28,7 +28,9 @@ fn number(line: &[u8], place: usize) -> usize {
     let mut number = 0usize;
     if let Some(field) = line.split(|byte| *byte == b'\t').nth(place) {
         for digit in field {
-            number = number.wrapping_mul(10).wrapping_add(usize::from(digit.wrapping_sub(b'0')));
+            number = number
+                .wrapping_mul(10)
+                .wrapping_add(usize::from(digit.wrapping_sub(b'0')));
         }
     }
     number
