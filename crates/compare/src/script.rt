@@ -21,11 +21,13 @@ pub(crate) struct Size {
     pub(crate) steps: usize,
 }
 
-// What each core has still to do, last things first, and which core wrote each reference last.
+// What each core has still to do, last things first; which core wrote each reference last; and for each core and reference
+// whether the core likely holds it.
 #[derive(Drop)]
 struct Plan {
     pending: Vec<Vec<Call>>,
     writers: Vec<Option<usize>>,
+    held: Vec<bool>,
 }
 
 fn call(kind: Kind, core: usize, block: usize) -> Call {
@@ -71,7 +73,30 @@ impl Plan {
         Ok(Plan {
             pending,
             writers: vec![in heap; None; references]?,
+            held: vec![in heap; false; cores.saturating_mul(references)]?,
         })
+    }
+
+    // Notes an access, and tells whether the core likely held the block before.
+    fn expect(&mut self, core: usize, block: usize, writes: bool) -> bool {
+        let references = self.writers.len();
+        if writes {
+            for (place, held) in self.held.iter_mut().enumerate() {
+                *held = *held && place.checked_rem(references) != Some(block);
+            }
+            if let Some(last) = self.writers.get_mut(block) {
+                *last = Some(core);
+            }
+        }
+        let place = core.wrapping_mul(references).wrapping_add(block);
+        match self.held.get_mut(place) {
+            Some(held) => {
+                let was_held = *held;
+                *held = true;
+                was_held
+            }
+            None => false,
+        }
     }
 
     // An access, and what is to follow if the block is not held: a flush by its last writer, a fetch and the resuming.
@@ -79,17 +104,16 @@ impl Plan {
         let block = random.low(self.writers.len());
         let writes = random.once_in(3);
         let writer = self.writers.get(block).copied().flatten();
-        if let Some(pending) = self.pending.get_mut(core) {
+        let is_held = self.expect(core, block, writes) && !random.once_in(3);
+        if !is_held && let Some(pending) = self.pending.get_mut(core) {
             pending.push(call(Kind::Resume, core, block))?;
             pending.push(call(Kind::Fetch, core, block))?;
             if let Some(writer) = writer
+                && writer != core
                 && !random.once_in(8)
             {
                 pending.push(call(Kind::Flush, writer, block))?;
             }
-        }
-        if writes && let Some(last) = self.writers.get_mut(block) {
-            *last = Some(core);
         }
         let kind = if writes { Kind::Write } else { Kind::Read };
         Ok(call(kind, core, block))
@@ -98,7 +122,7 @@ impl Plan {
     fn next(&mut self, random: &mut Random) -> Result<Call, AllocError> {
         let cores = self.pending.len();
         let core = random.below(cores);
-        if random.once_in(12) {
+        if random.once_in(20) {
             let kinds = [
                 Kind::Read,
                 Kind::Write,
@@ -114,7 +138,7 @@ impl Plan {
         let waiting = self.pending.get_mut(core).and_then(|pending| pending.pop());
         match waiting {
             Some(call) => Ok(call),
-            None if random.once_in(10) => {
+            None if random.once_in(12) => {
                 Ok(call(Kind::Commit, core, random.low(self.writers.len())))
             }
             None => self.begin(random, core),
