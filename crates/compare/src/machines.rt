@@ -1,19 +1,18 @@
 //! The machines of each kind, over the cells that are lent.
 
-use crate::build::{Rowed, Stored, beside, core, direct, flat, interleaved, pile, sets, window};
+use crate::build::{Rowed, Stored, beside, core, direct, flat, interleaved, pile, window};
 use crate::job::{Job, Told};
 use crate::kinds::Kind;
 use crate::proved;
 use crate::random::Random;
+use crate::refused::{beyond, halved, nine, sixteen, wrong_table};
 use crate::rows::{
-    a_direct, a_queue, a_recent, eight_small, five_left, five_right, four_left, four_odd,
-    some_sets, three_odd,
+    a_direct, a_queue, a_recent, eight_small, five_left, five_right, four_left, four_odd, some_sets,
 };
-use interleaved::Interleaved;
+use crate::tables::stored_32;
 use machine::two_cores;
 use memory::Memory;
 use memory::cell::Cell;
-use memory::flat::Flat;
 use reference::machine::{Level, Part};
 use row::Row;
 use std::alloc::{AllocError, Global};
@@ -26,7 +25,7 @@ pub(crate) struct Tried {
     pub(crate) parts: Vec<Part>,
 }
 
-fn run<R: Row + Drop, M: Memory + Drop>(
+pub(crate) fn run<R: Row + Drop, M: Memory + Drop>(
     rowed: Rowed<R>,
     stored: Stored<M>,
     heap: Global,
@@ -40,13 +39,16 @@ fn run<R: Row + Drop, M: Memory + Drop>(
 }
 
 // Cuts a table in two, each of at least one cell where there are two.
-fn cut<'a>(random: &mut Random, cells: &'a mut [Cell]) -> (&'a mut [Cell], &'a mut [Cell]) {
+pub(crate) fn cut<'a>(
+    random: &mut Random,
+    cells: &'a mut [Cell],
+) -> (&'a mut [Cell], &'a mut [Cell]) {
     let most = cells.len();
     let at = random.among(1, most.saturating_sub(1)).min(most);
     cells.split_at_mut(at)
 }
 
-fn halves<'a>(cells: &'a mut [Cell]) -> (&'a mut [Cell], &'a mut [Cell]) {
+pub(crate) fn halves<'a>(cells: &'a mut [Cell]) -> (&'a mut [Cell], &'a mut [Cell]) {
     let at = cells.len() / 2;
     cells.split_at_mut(at)
 }
@@ -211,135 +213,6 @@ fn eight(
         layout,
         job,
     )
-}
-
-fn nine(
-    heap: Global,
-    random: &mut Random,
-    cells: &mut [Cell],
-    layout: &mut [u32],
-    job: Job,
-) -> Result<Tried, AllocError> {
-    let rowed = beside(
-        eight_small(heap, random)?,
-        core(heap, a_direct(heap, random)?)?,
-    )?;
-    run(rowed, flat(heap, cells)?, heap, layout, job)
-}
-
-fn sixteen(
-    heap: Global,
-    random: &mut Random,
-    cells: &mut [Cell],
-    layout: &mut [u32],
-    job: Job,
-) -> Result<Tried, AllocError> {
-    let rowed = beside(eight_small(heap, random)?, eight_small(heap, random)?)?;
-    run(
-        rowed,
-        window(flat(heap, cells)?, 9_999, 1)?,
-        heap,
-        layout,
-        job,
-    )
-}
-
-fn beyond(
-    heap: Global,
-    random: &mut Random,
-    cells: &mut [Cell],
-    layout: &mut [u32],
-    job: Job,
-) -> Result<Tried, AllocError> {
-    let length = if random.once_in(2) { u32::MAX } else { 0 };
-    let start = if length > 0 {
-        random.word(40, 4_294_967_295)
-    } else {
-        0
-    };
-    let rowed = beside(
-        core(heap, three_odd(heap, random)?)?,
-        core(heap, a_queue(heap, random)?)?,
-    )?;
-    run(
-        rowed,
-        window(flat(heap, cells)?, start, length)?,
-        heap,
-        layout,
-        job,
-    )
-}
-
-// A table that makes a memory without blocks, whose cells stay as they are.
-fn wrong_table(
-    heap: Global,
-    random: &mut Random,
-    cells: &mut [Cell],
-    layout: &mut [u32],
-    job: Job,
-) -> Result<Tried, AllocError> {
-    let rowed = beside(
-        core(heap, some_sets(heap, random)?)?,
-        core(heap, sets(heap, 1, 1)?)?,
-    )?;
-    run(rowed, flat(heap, cells)?, heap, layout, job)
-}
-
-fn halved(
-    heap: Global,
-    random: &mut Random,
-    cells: &mut [Cell],
-    layout: &mut [u32],
-    job: Job,
-) -> Result<Tried, AllocError> {
-    let rowed = beside(
-        core(heap, a_direct(heap, random)?)?,
-        core(heap, a_direct(heap, random)?)?,
-    )?;
-    let (even, odd) = cut(random, cells);
-    let none = window(flat(heap, odd)?, 0, 0)?;
-    run(
-        rowed,
-        interleaved(flat(heap, even)?, none)?,
-        heap,
-        layout,
-        job,
-    )
-}
-
-type Stored2<'a> = Interleaved<Flat<'a>, Flat<'a>>;
-
-type Stored4<'a> = Interleaved<Stored2<'a>, Stored2<'a>>;
-
-type Stored8<'a> = Interleaved<Stored4<'a>, Stored4<'a>>;
-
-type Stored16<'a> = Interleaved<Stored8<'a>, Stored8<'a>>;
-
-type Stored32<'a> = Interleaved<Stored16<'a>, Stored16<'a>>;
-
-fn stored_2<'a>(heap: Global, cells: &'a mut [Cell]) -> Result<Stored<Stored2<'a>>, AllocError> {
-    let (even, odd) = halves(cells);
-    interleaved(flat(heap, even)?, flat(heap, odd)?)
-}
-
-fn stored_4<'a>(heap: Global, cells: &'a mut [Cell]) -> Result<Stored<Stored4<'a>>, AllocError> {
-    let (even, odd) = halves(cells);
-    interleaved(stored_2(heap, even)?, stored_2(heap, odd)?)
-}
-
-fn stored_8<'a>(heap: Global, cells: &'a mut [Cell]) -> Result<Stored<Stored8<'a>>, AllocError> {
-    let (even, odd) = halves(cells);
-    interleaved(stored_4(heap, even)?, stored_4(heap, odd)?)
-}
-
-fn stored_16<'a>(heap: Global, cells: &'a mut [Cell]) -> Result<Stored<Stored16<'a>>, AllocError> {
-    let (even, odd) = halves(cells);
-    interleaved(stored_8(heap, even)?, stored_8(heap, odd)?)
-}
-
-fn stored_32<'a>(heap: Global, cells: &'a mut [Cell]) -> Result<Stored<Stored32<'a>>, AllocError> {
-    let (even, odd) = halves(cells);
-    interleaved(stored_16(heap, even)?, stored_16(heap, odd)?)
 }
 
 // Of 131,072 blocks half are out of reach.

@@ -14,10 +14,12 @@ mod machines;
 mod pairs;
 mod proved;
 mod random;
+mod refused;
 mod rows;
 mod scenarios;
 mod score;
 mod script;
+mod tables;
 mod temporary;
 
 use anyhow::anyhow;
