@@ -31,7 +31,9 @@ pub fn single<'t>(
     ensures table { layout.new ≡ laid 256 (single_of placement.now schedule.now) }
 {
     unplace(layout);
-    read(placement, layout, Section::Placement)
-        .map_err(|fault| FileFault::of(File::Placement, fault))?;
+    read(placement, layout, Section::Placement).map_err(|fault| FileFault::of(
+        File::Placement,
+        fault,
+    ))?;
     read(schedule, layout, Section::Schedule).map_err(|fault| FileFault::of(File::Schedule, fault))
 }

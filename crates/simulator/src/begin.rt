@@ -20,7 +20,11 @@ pub struct Refused<R, M> {
 }
 
 // Weighs and opens a study. If it is refused, row and memory are untouched.
-pub(crate) fn begin<R: Row, M: Memory>(prices: Prices, row: R, memory: M) -> Result<Run<R, M>, Refused<R, M>>
+pub(crate) fn begin<R: Row, M: Memory>(
+    prices: Prices,
+    row: R,
+    memory: M,
+) -> Result<Run<R, M>, Refused<R, M>>
     ensures run { begun_as R.cores M.meaning result ≡ started (weighing prices) (R.cores row) (M.meaning memory) }
     ensures back { IfErr result (λ e. (e.row ≡ row) × (e.memory ≡ memory)) }
     ensures warrant { OnOk result (Warranted (R.cores row) (M.meaning memory) prices) }

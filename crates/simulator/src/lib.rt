@@ -4,7 +4,5 @@
 mod begin;
 pub mod form;
 mod output;
-
-
 mod play;
 pub mod simulate;

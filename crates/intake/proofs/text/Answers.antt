@@ -5,4 +5,4 @@ use Rattle.intake.proofs.text.Goals as goal
 pub returns : goal.returns
 returns g c =
     taken (g.R.Read.remaining c.args.input) 65537 (vec_items c.read_to_end.new.buf)
-      (rw (c.take.ensures.limit, c.most.ensures, c.take.ensures.inner, c.new-bytes.ensures.items) at c.in_ok-read_to_end.ensures.bytes)
+    (rw (c.take.ensures.limit, c.most.ensures, c.take.ensures.inner, c.new-bytes.ensures.items) at c.in_ok-read_to_end.ensures.bytes)

@@ -7,12 +7,11 @@ loop-call-init g c = (omega (arith, c.args.steps.few), refl, told_none _ _ _ _)
 
 pub loop-call-preserved : goal.loop-call-preserved
 loop-call-preserved g c =
-    let next = c.in-Some.ensures.next in
-    (
+    let next = c.in-Some.ensures.next in (
       omega (arith, c.in-Some.ensures.shorter),
       played_on _ _ _ _ _ _ _ next c.take_turn.ensures.run c.loop-call.invariant.1,
       on_both c.loop-call.written c.write-written.result c.loop-call.invariant.2 c.write-written.ensures
-        (told_on _ _ _ _ _ _ _ next c.take_turn.ensures.run _ _ _ _ _ _ _ c.take_turn.ensures.played c.turn-line.ensures),
+          (told_on _ _ _ _ _ _ _ next c.take_turn.ensures.run _ _ _ _ _ _ _ c.take_turn.ensures.played c.turn-line.ensures),
     )
 
 pub returns-clause-run : goal.returns-clause-run
