@@ -14,7 +14,6 @@ use Rattle.protocol.specs.declared.refusal.Refusal.TheVariants.{StaleBlock}
 use Rattle.protocol.specs.declared.weights.Prices.{Prices}
 use Rattle.protocol.specs.Prices.{prices}
 use Rattle.machine.specs.Machine.{two_cores}
-use Rattle.study.specs.declared.turn.Played.{Played}
 use Rattle.study.specs.declared.turn.Turn.{Turn}
 use Rattle.study.specs.Run.{RunMeaning}
 use Rattle.study.specs.Opening.{opened}

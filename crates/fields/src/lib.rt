@@ -9,8 +9,8 @@ pub const LINE_FEED: u8 = b'\n';
 /// What parts the fields of a line.
 pub const TAB: u8 = b'\t';
 
-#[tactic(auto, using(crate::proofs::Cuts::ended, crate::proofs::Cuts::whole))]
 /// The part before the first separator, and all that follows it; none where there is no separator.
+#[tactic(auto, using(crate::proofs::Cuts::ended, crate::proofs::Cuts::whole))]
 pub fn cut<'t>(bytes: &'t [u8], sep: u8) -> Option<(&'t [u8], &'t [u8])>
     ensures { MatchOption result (parts sep bytes.now ≡ bytes.now ∷ []) (λ x. (parts sep bytes.now ≡ x.0.now ∷ parts sep x.1.now) × (length x.1.now < length bytes.now)) }
 {

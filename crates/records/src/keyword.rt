@@ -3,7 +3,7 @@ ghost use Rattle.std.specs.Prelude.{◌≡◌};
 ghost use Rattle.records.specs.Keywords.{keyword_of, allows};
 
 /// The word of a line that is a step.
-#[derive(Clone, Copy, PartialEq, Eq, Debug)]
+#[derive(Clone, Copy)]
 pub enum Verb {
     Read,
     Write,
@@ -14,7 +14,7 @@ pub enum Verb {
 }
 
 /// The word that a line begins with.
-#[derive(Clone, Copy, PartialEq, Eq, Debug)]
+#[derive(Clone, Copy)]
 pub enum Keyword {
     Weights,
     Ref,
@@ -22,7 +22,7 @@ pub enum Keyword {
 }
 
 /// Which lines may come next.
-#[derive(Clone, Copy, PartialEq, Eq, Debug)]
+#[derive(Clone, Copy)]
 pub enum Section {
     /// The weights, with which a scenario begins.
     Scenario,

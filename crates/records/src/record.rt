@@ -11,14 +11,14 @@ use fields::{TAB, cut, five, one, two};
 pub const MOST_BYTES: usize = 80;
 
 /// A field: a part of the text, with its place.
-#[derive(Clone, Copy, Debug)]
+#[derive(Clone, Copy)]
 pub struct Field<'t> {
     pub bytes: &'t [u8],
     pub place: Place,
 }
 
 /// A line that was read.
-#[derive(Clone, Copy, Debug)]
+#[derive(Clone, Copy)]
 pub enum Record<'t> {
     Weights {
         w1: Field<'t>,

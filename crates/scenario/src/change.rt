@@ -11,7 +11,7 @@ use records::keyword::Section;
 use records::record::{Field, Record};
 
 /// What a line changes.
-#[derive(Clone, Copy, PartialEq, Eq, Debug)]
+#[derive(Clone, Copy)]
 pub enum Change {
     /// It gives the weights.
     Weigh(Prices),

@@ -90,7 +90,7 @@ impl FileFault {
 }
 
 /// Where a fault comes from.
-#[derive(Clone, Copy, PartialEq, Eq, Debug)]
+#[derive(Clone, Copy)]
 pub enum Layer {
     Text,
     Layout,
@@ -111,7 +111,7 @@ impl Layer {
 }
 
 /// A fault, as a report tells it. Line and field count from 1; 0 stands for none.
-#[derive(Clone, Copy, PartialEq, Eq, Debug)]
+#[derive(Clone, Copy)]
 pub struct Told {
     pub layer: Layer,
     pub line: u32,

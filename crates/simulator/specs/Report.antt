@@ -33,18 +33,18 @@ if_refused s n (Err e) = refused_line s n e
 abbrev pub by_side : Side → Form
 by_side s = record { turn = λ n p. if_refused s n p.answer; quote = side_quote_line s; fault = side_fault_line s Schedule }
 
-abbrev pub text_of : Option (List ℕ) → List ℕ
-text_of None = []
-text_of (Some l) = l
+abbrev pub line_text : Option (List ℕ) → List ℕ
+line_text None = []
+line_text (Some l) = l
 
-abbrev pub turn_of : Form → ℕ → Option Played → List ℕ
-turn_of f n None = []
-turn_of f n (Some p) = f.turn n p
+abbrev pub turn_text : Form → ℕ → Option Played → List ℕ
+turn_text f n None = []
+turn_text f n (Some p) = f.turn n p
 
 -- what is written of the turns, numbered from n
 unfoldable pub turn_lines : Form → ℕ → List Turn → List ℕ
 turn_lines f n [] = []
-turn_lines f n (t ∷ ts) = turn_of f n t.played ++ turn_lines f (n + 1) ts
+turn_lines f n (t ∷ ts) = turn_text f n t.played ++ turn_lines f (n + 1) ts
 
 -- a run that was opened tells its history and its quote, and a fault tells itself
 abbrev pub report_of : Form → Result RunMeaning Fault → List Call → List ℕ

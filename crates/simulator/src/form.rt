@@ -1,6 +1,6 @@
 //! How a study is told.
 ghost use Rattle.std.specs.Prelude.{◌≡◌};
-ghost use Rattle.simulator.specs.Report.{Form, in_full, by_side, text_of};
+ghost use Rattle.simulator.specs.Report.{Form, in_full, by_side, line_text};
 
 use report::line::Line;
 use report::paired::Side;
@@ -15,7 +15,7 @@ pub trait Telling {
 
     /// The line of a step, if it has one.
     fn turn(&self, number: u32, played: &Played) -> Option<Line>
-        ensures { text_of result ≡ (form self.now).turn number played.now };
+        ensures { line_text result ≡ (form self.now).turn number played.now };
 
     /// The line of the quote.
     fn quote(&self, quote: &Quote) -> Line

@@ -1,7 +1,7 @@
 //! Lines that are written as long as writing succeeds.
 ghost use Rattle.std.specs.Prelude.{◌≡◌, OnOk, IsOk};
 ghost use Rattle.std.specs.Io.KnownBytes.{Appends};
-ghost use Rattle.simulator.specs.Report.{text_of};
+ghost use Rattle.simulator.specs.Report.{line_text};
 
 use report::line::Line;
 use std::io;
@@ -14,7 +14,7 @@ pub(crate) fn write<W: Write>(
     written: io::Result<()>,
     line: Option<Line>,
 ) -> io::Result<()>
-    ensures { OnOk result (IsOk written × Appends (W.contents out.old) (W.contents out.new) (text_of line)) }
+    ensures { OnOk result (IsOk written × Appends (W.contents out.old) (W.contents out.new) (line_text line)) }
 {
     written?;
     match line {

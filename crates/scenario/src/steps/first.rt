@@ -31,8 +31,8 @@ impl<'t> Steps<'t> {
         }
     }
 
-    #[tactic(auto, using(crate::proofs::Calls::calls_first, crate::proofs::Calls::calls_end, crate::proofs::Calls::calls_last))]
     /// The next call, and the steps after it; none at the end.
+    #[tactic(auto, using(crate::proofs::Calls::calls_first, crate::proofs::Calls::calls_end, crate::proofs::Calls::calls_last))]
     pub fn first(self, layout: &[u32]) -> Option<(Call, Steps<'t>)>
         ensures next { MatchOption result (calls_in layout.now self.entry ≡ []) (λ x. calls_in layout.now self.entry ≡ x.0 ∷ calls_in layout.now x.1) }
         ensures shorter { IfSome result (λ x. bytes_left x.1 < bytes_left self.entry) }
