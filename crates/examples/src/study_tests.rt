@@ -1,11 +1,8 @@
-//! Studies: the limits of cores, weights and steps, and the nine calls. What is written for any row is checked sooner.
+//! The nine calls over a lent table, and a study that is refused. What is written for any row is checked sooner.
 use direct::direct::Direct;
 use lent_study::simulate_in_table;
 use machine::two_cores;
-use memory::Memory;
 use memory::cell::{Cell, State};
-use memory::flat::Flat;
-use pair::Pair;
 use protocol::answer::Answer;
 use protocol::call::Call;
 use protocol::refusal::Refusal;
@@ -16,7 +13,6 @@ use std::alloc::{AllocError, Global};
 use std::process::Abort;
 use std::test::Fail;
 use study::quote::Quote;
-use study::stages::{Draft, Run};
 use study::turn::{Played, Turn};
 
 const OLD: Cell = Cell {
@@ -33,121 +29,6 @@ const NEW: Cell = Cell {
 fn one(heap: Global) -> Result<Core<Direct>, AllocError> {
     let tier = Direct::new(heap, 1).map_err(|_| AllocError)?;
     Ok(Core::new(tier))
-}
-
-// Two rows side by side, each as the closure makes it. Said in two places, since a public function could not
-// take a closure without a precondition.
-fn doubled<R: Row + Drop, F: Fn() -> Result<R, AllocError>>(
-    row: F,
-) -> Result<Pair<R, R>, AllocError>
-    requires { F.IsAlwaysCallable row }
-{
-    Ok(Pair::new(row()?, row()?))
-}
-
-// The number of the refusal, if there is one, and of what comes back how many cores it has and the stamp of block 0.
-fn opening<R: Row + Drop>(row: R) -> (Option<u8>, u16, Option<u32>) {
-    let mut table = [OLD];
-    match Draft::new(row, Flat::over(&mut table)).open() {
-        Ok(run) => {
-            let settled = run.settle();
-            (
-                None,
-                settled.row.count(),
-                settled.memory.ask(0).unwrap_or(None),
-            )
-        }
-        Err(refused) => {
-            let number = u8::from(refused.refusal);
-            let (row, memory) = refused.draft.into_parts();
-            (Some(number), row.count(), memory.ask(0).unwrap_or(None))
-        }
-    }
-}
-
-#[test]
-fn cores_are_limited(rt: HostRuntime) -> Result<(), Fail> {
-    let heap = rt.alloc();
-    let eight = doubled(|| doubled(|| doubled(|| one(heap))))?;
-    assert_eq!(rt; opening(eight), (None, 8, Some(0)));
-    let eight = doubled(|| doubled(|| doubled(|| one(heap))))?;
-    let nine = Pair::new(eight, one(heap)?);
-    assert_eq!(rt; opening(nine), (Some(1), 9, None));
-    Ok(())
-}
-
-// What a study comes to, unless it is refused.
-fn quote<R: Row + Drop, M: Memory + Drop>(
-    draft: Draft<R, M>,
-    schedule: &mut [Turn],
-) -> Option<Quote> {
-    draft.simulate(schedule).ok().map(|settled| settled.quote)
-}
-
-fn weighs<R: Row + Drop>(rt: &impl Abort, row: R) {
-    let mut table = [OLD];
-    let mut draft = Draft::new(row, Flat::over(&mut table));
-    let most = Prices {
-        w1: 1000,
-        w2: 1000,
-        w3: 1000,
-        w4: 1000,
-        wm: 1000,
-    };
-    assert_eq!(rt; draft.weigh(most), Ok(()));
-    let none = Prices::default();
-    let high = [
-        Prices { w1: 1001, ..none },
-        Prices { w2: 1001, ..none },
-        Prices { w3: 1001, ..none },
-        Prices { w4: 1001, ..none },
-        Prices { wm: 1001, ..none },
-    ];
-    for prices in high {
-        assert_eq!(rt; draft.weigh(prices), Err(Refusal::WeightTooHigh));
-    }
-    // a fetch and a read at level 1, by the weights that were taken
-    let mut schedule = [
-        Turn::new(Call::Read(0, 0)),
-        Turn::new(Call::Fetch(0)),
-        Turn::new(Call::Resume(0)),
-    ];
-    let expected = Quote {
-        accesses: 1,
-        total: 2000,
-        figure: Some(200_000),
-    };
-    assert_eq!(rt; quote(draft, &mut schedule), Some(expected));
-}
-
-#[test]
-fn weights_are_limited(rt: HostRuntime) -> Result<(), Fail> {
-    weighs(&rt, one(rt.alloc())?);
-    Ok(())
-}
-
-// How many calls are accepted before one is refused, and the number of the refusal.
-fn accepted<R: Row, M: Memory>(run: &mut Run<R, M>) -> Option<(u32, u8)> {
-    for count in 0..1_000_001 {
-        if let Err(refusal) = run.step(Call::Commit(0, 0)) {
-            return Some((count, u8::from(refusal)));
-        }
-    }
-    None
-}
-
-fn steps<R: Row + Drop>(rt: &impl Abort, row: R) -> Result<(), Fail> {
-    let mut table = [OLD];
-    let Ok(mut run) = Draft::new(row, Flat::over(&mut table)).open() else {
-        return Err(Fail::new("refused"));
-    };
-    assert_eq!(rt; accepted(&mut run), Some((1_000_000, 4)));
-    Ok(())
-}
-
-#[test]
-fn steps_are_limited(rt: HostRuntime) -> Result<(), Fail> {
-    steps(&rt, one(rt.alloc())?)
 }
 
 // The first turn with another answer or total, if there is one.
