@@ -1,0 +1,72 @@
+-- A text that was written is read line after line.
+use Rattle.std.proofs.Common.{◌≡◌, ℕ, ◌+◌, ◌<◌, ◌≤◌, Bool, true, false, cond, List, [], ◌∷◌, ◌++◌, map, length, slice_set, nat_lt, ◌==◌, Ok, Err, Result, sym, refl, ap, ◌∙◌, arith, rules, append_assoc, append-nil}
+use Rattle.std.proofs.lemmas.Bool.Decides.{nat_tests}
+use Rattle.fields.specs.Parts.{parts}
+use Rattle.fields.proofs.Cuts.{some}
+use Rattle.protocol.specs.declared.call.Call.{Call}
+use Rattle.protocol.specs.declared.weights.Prices.{Prices}
+use Rattle.protocol.specs.Prices.{none}
+use Rattle.records.specs.declared.fault.TextFault.TheVariants.{TooLong}
+use Rattle.records.specs.declared.keyword.Section.{Section}
+use Rattle.records.specs.declared.keyword.Section.TheVariants.{Scenario, Refs, Steps}
+use Rattle.scenario.specs.declared.change.Change.{Change}
+use Rattle.scenario.specs.declared.fault.Fault.TheVariants.{Text, Layout}
+use Rattle.scenario.specs.declared.fault.LayoutFault.TheVariants.{BadTable}
+use Rattle.scenario.specs.Changes.{and_then, line_change}
+use Rattle.scenario.specs.Scan.{State, state, start, scan, changed_by}
+use Rattle.scenario.specs.Reading.{a_read, read_of, section_of}
+use Rattle.scenario.specs.Texts.{unplaced}
+use Rattle.report.specs.Lines.{row}
+use Rattle.round_trip.specs.Written.{Placing, Step, Writable, Placeable, Steppable, ReadsBack, weights_fields, placing_fields, step_fields, rows, written, placed, call_of, made_by}
+use Rattle.round_trip.proofs.Rows.{Unparted, body, row_line}
+use Rattle.round_trip.proofs.Changes.{weights_line, placing_line, step_line, may_step}
+
+scan_on : (st : State) (line : ℕ) (p : List ℕ) (ps : List (List ℕ)) → 1 ≤ length ps → scan st line (p ∷ ps) ≡ and_then (line_change st.layout st.section line p) (λ c. scan (changed_by st c) (line + 1) ps)
+unfolding scan
+scan_on st line p [] h = absurd (omega arith)
+scan_on st line p (q ∷ ps) h = refl
+
+-- a line that was written, and that changes c
+row_read : (st : State) (line : ℕ) (fs : List (List ℕ)) (rest : List ℕ) (c : Change) → Unparted fs → line_change st.layout st.section line (body fs) ≡ Ok c
+    → scan st line (parts 10 (row fs ++ rest)) ≡ scan (changed_by st c) (line + 1) (parts 10 rest)
+row_read st line fs rest c u e =
+    ap (scan st line) (row_line fs rest u) ∙ scan_on st line (body fs) (parts 10 rest) (some 10 rest)
+    ∙ ap (λ r. and_then r (λ c'. scan (changed_by st c') (line + 1) (parts 10 rest))) e
+
+steps_read : (w : Prices) (layout : List ℕ) (ks : List Call) (o : Bool) (line : ℕ) (ss : List Step) → Steppable layout ss
+    → (s : Section) × (scan (state w layout ks (may_step o)) line (parts 10 (rows (map step_fields ss))) ≡ Ok (state w layout (ks ++ map (made_by layout) ss) s))
+unfolding scan parts rows
+steps_read w layout ks true line [] h = (Refs, ap (λ x. Ok (state w layout x Refs)) (sym (append-nil ks)))
+steps_read w layout ks false line [] h = (Steps, ap (λ x. Ok (state w layout x Steps)) (sym (append-nil ks)))
+steps_read w layout ks o line (x ∷ ss) h =
+    let l = step_line layout o line x.verb x.core x.reference h.0 h.1 in
+    let k = made_by layout x in
+    let more = steps_read w layout (ks ++ k ∷ []) false (line + 1) ss h.2 in
+    (
+      more.0,
+      row_read (state w layout ks (may_step o)) line (step_fields x) (rows (map step_fields ss)) _ l.0 l.1
+      ∙ more.1 ∙ ap (λ y. Ok (state w layout y more.0)) (append_assoc ks (k ∷ []) (map (made_by layout) ss)),
+    )
+
+placings_read : (w : Prices) (layout : List ℕ) (line : ℕ) (ps : List Placing) (ss : List Step) → Placeable layout ps → Steppable (placed layout ps) ss
+    → (s : Section) × (scan (state w layout [] Refs) line (parts 10 (rows (map placing_fields ps ++ map step_fields ss))) ≡ Ok (state w (placed layout ps) (map (made_by (placed layout ps)) ss) s))
+unfolding rows placed
+placings_read w layout line [] ss h g = steps_read w layout [] true line ss g
+placings_read w layout line (p ∷ ps) ss h g =
+    let l = placing_line layout line p h.0 h.1 h.2 in
+    let more = placings_read w (slice_set layout p.reference p.block) (line + 1) ps ss h.3 g in
+    (more.0, row_read (state w layout [] Refs) line (placing_fields p) (rows (map placing_fields ps ++ map step_fields ss)) _ l.0 l.1 ∙ more.1)
+
+pub reads_back : ReadsBack
+unfolding section_of rows
+reads_back w ps ss table hw hp hs short full =
+    let text = written w ps ss in
+    let l = weights_line unplaced 1 w hw in
+    let more = placings_read w unplaced 2 ps ss hp hs in
+    let read : scan (start Scenario unplaced) 1 (parts 10 text) ≡ Ok (state w (placed unplaced ps) (map (made_by (placed unplaced ps)) ss) more.0) =
+        row_read (start Scenario unplaced) 1 (weights_fields w) (rows (map placing_fields ps ++ map step_fields ss)) _ l.0 l.1 ∙ more.1
+    in
+    let fits : nat_lt 65536 (length text) ≡ false = grind (arith, nat_tests) in
+    ap (λ n. cond (n == 256) (section_of Scenario unplaced text) (Err (Layout BadTable))) full
+    ∙ ap (λ b. and_then (cond b (Err (Text TooLong)) (scan (start Scenario unplaced) 1 (parts 10 text))) (λ st. Ok (read_of st))) fits
+    ∙ ap (λ r. and_then r (λ st. Ok (read_of st))) read

@@ -1,0 +1,94 @@
+-- A scenario, as a buyer writes it down, and what reading it back has to give.
+use Rattle.std.specs.Prelude.{◌≡◌, ℕ, ◌<◌, ◌≤◌, List, [], ◌∷◌, ◌++◌, map, length, get_or, slice_get, slice_set, codes, decimal, Some, Ok}
+use Rattle.protocol.specs.declared.call.Call.{Call}
+use Rattle.protocol.specs.declared.call.Call.TheVariants as call
+use Rattle.protocol.specs.declared.weights.Prices.{Prices}
+use Rattle.records.specs.declared.keyword.Verb.{Verb}
+use Rattle.records.specs.declared.keyword.Verb.TheVariants.{Read, Write, Commit, Flush, Fetch, Resume}
+use Rattle.scenario.specs.Reading.{a_read}
+use Rattle.scenario.specs.Texts.{unplaced, scenario_of}
+use Rattle.report.specs.Lines.{row}
+
+-- a reference, and the block where it is placed
+pub record Placing : Type 0 where
+  pub reference : ℕ
+  pub block : ℕ
+
+-- a step of a core, and the reference that it names, if it names one
+pub record Step : Type 0 where
+  pub verb : Verb
+  pub core : ℕ
+  pub reference : ℕ
+
+abbrev pub weights_fields : Prices → List (List ℕ)
+weights_fields w = codes "weights" ∷ decimal w.w1 ∷ decimal w.w2 ∷ decimal w.w3 ∷ decimal w.w4 ∷ decimal w.wm ∷ []
+
+abbrev pub placing_fields : Placing → List (List ℕ)
+placing_fields p = codes "ref" ∷ decimal p.reference ∷ decimal p.block ∷ []
+
+abbrev pub step_fields_of : Verb → ℕ → ℕ → List (List ℕ)
+step_fields_of Read c r = codes "read" ∷ decimal c ∷ decimal r ∷ []
+step_fields_of Write c r = codes "write" ∷ decimal c ∷ decimal r ∷ []
+step_fields_of Commit c r = codes "commit" ∷ decimal c ∷ decimal r ∷ []
+step_fields_of Flush c r = codes "flush" ∷ decimal c ∷ decimal r ∷ []
+step_fields_of Fetch c r = codes "fetch" ∷ decimal c ∷ []
+step_fields_of Resume c r = codes "resume" ∷ decimal c ∷ []
+
+abbrev pub step_fields : Step → List (List ℕ)
+step_fields s = step_fields_of s.verb s.core s.reference
+
+-- a line for each
+unfoldable pub rows : List (List (List ℕ)) → List ℕ
+rows [] = []
+rows (fs ∷ fss) = row fs ++ rows fss
+
+abbrev pub written : Prices → List Placing → List Step → List ℕ
+written w ps ss = rows (weights_fields w ∷ (map placing_fields ps ++ map step_fields ss))
+
+-- the layout with the placings
+unfoldable pub placed : List ℕ → List Placing → List ℕ
+placed layout [] = layout
+placed layout (p ∷ ps) = placed (slice_set layout p.reference p.block) ps
+
+-- the call that a step makes where its reference lies in block n
+abbrev pub call_of : Verb → ℕ → ℕ → Call
+call_of Read c n = call.Read c n
+call_of Write c n = call.Write c n
+call_of Commit c n = call.Commit c n
+call_of Flush c n = call.Flush c n
+call_of Fetch c n = call.Fetch c
+call_of Resume c n = call.Resume c
+
+abbrev pub made_by : List ℕ → Step → Call
+made_by layout s = call_of s.verb s.core (get_or layout s.reference 0)
+
+-- what the format asks of weights, of placings in their order, and of a step
+pub record Writable (w : Prices) : Type 0 where
+  pub w1 : w.w1 < 65536
+  pub w2 : w.w2 < 65536
+  pub w3 : w.w3 < 65536
+  pub w4 : w.w4 < 65536
+  pub wm : w.wm < 65536
+
+abbrev pub Placeable : List ℕ → List Placing → Type 0
+Placeable layout [] = Unit {0}
+Placeable layout (p ∷ ps) = (slice_get layout p.reference ≡ Some 65536) × (p.reference < 256) × (p.block < 65536) × Placeable (slice_set layout p.reference p.block) ps
+
+-- the reference of a step is placed, if it names one
+abbrev pub NamesPlaced : List ℕ → Verb → ℕ → Type 0
+NamesPlaced layout Read r = (r < 256) × (slice_get layout r ≡ Some (get_or layout r 0)) × (get_or layout r 0 < 65536)
+NamesPlaced layout Write r = (r < 256) × (slice_get layout r ≡ Some (get_or layout r 0)) × (get_or layout r 0 < 65536)
+NamesPlaced layout Commit r = (r < 256) × (slice_get layout r ≡ Some (get_or layout r 0)) × (get_or layout r 0 < 65536)
+NamesPlaced layout Flush r = (r < 256) × (slice_get layout r ≡ Some (get_or layout r 0)) × (get_or layout r 0 < 65536)
+NamesPlaced layout Fetch r = Unit {0}
+NamesPlaced layout Resume r = Unit {0}
+
+abbrev pub Steppable : List ℕ → List Step → Type 0
+Steppable layout [] = Unit {0}
+Steppable layout (s ∷ ss) = (s.core < 65536) × NamesPlaced layout s.verb s.reference × Steppable layout ss
+
+-- a scenario that is written so, and is not too long, is read as what was written, into any table of 256 entries
+abbrev pub ReadsBack : Type 0
+ReadsBack = (w : Prices) (ps : List Placing) (ss : List Step) (table : List ℕ) → Writable w → Placeable unplaced ps → Steppable (placed unplaced ps) ss
+    → length (written w ps ss) ≤ 65536 → length table ≡ 256
+    → scenario_of table (written w ps ss) ≡ Ok (a_read w (placed unplaced ps) (map (made_by (placed unplaced ps)) ss))
