@@ -10,7 +10,7 @@ use Rattle.records.specs.declared.fault.TextFault.TheVariants.{Unended}
 use Rattle.records.specs.declared.keyword.Verb.{Verb}
 use Rattle.records.specs.declared.keyword.Verb.TheVariants.{Read, Write, Commit, Flush, Fetch, Resume}
 use Rattle.records.specs.declared.keyword.Section.{Section}
-use Rattle.records.specs.declared.keyword.Section.TheVariants.{Scenario, Refs, Steps}
+use Rattle.records.specs.declared.keyword.Section.TheVariants.{Scenario, Refs, Steps, Placement, Schedule}
 use Rattle.records.specs.Lines.{record_of}
 use Rattle.scenario.specs.declared.change.Change.{Change}
 use Rattle.scenario.specs.declared.change.Change.TheVariants.{Weigh, Lay, Make}
@@ -52,20 +52,42 @@ seven n h = omega (arith, short n h)
 
 -- ---- the three kinds of line
 
-pub weights_line : (layout : List ℕ) (line : ℕ) (w : Prices) → Writable w → Unparted (weights_fields w) × (line_change layout Scenario line (body (weights_fields w)) ≡ Ok (Weigh w))
-unfolding weights_of
-weights_line layout line w h =
-    let u : Unparted (weights_fields w) = (refl, (number w.w1 h.w1, (number w.w2 h.w2, (number w.w3 h.w3, (number w.w4 h.w4, (number w.wm h.wm, tt)))))) in
-    let s : Short (weights_fields w) = (omega arith, (seven w.w1 h.w1, (seven w.w2 h.w2, (seven w.w3 h.w3, (seven w.w4 h.w4, (seven w.wm h.wm, tt)))))) in
-    (u, of_fields layout Scenario line (codes "weights") (decimal w.w1 ∷ decimal w.w2 ∷ decimal w.w3 ∷ decimal w.w4 ∷ decimal w.wm ∷ []) u s (omega arith) ∙ rw (read w.w1 h.w1, read w.w2 h.w2, read w.w3 h.w3, read w.w4 h.w4, read w.wm h.wm) refl)
+-- the sections in which weights, and in which placings may stand
+abbrev pub may_weigh : Bool → Section
+may_weigh true = Scenario
+may_weigh false = Schedule
 
-pub placing_line : (layout : List ℕ) (line : ℕ) (p : Placing) → slice_get layout p.reference ≡ Some 65536 → p.reference < 256 → p.block < 65536
-    → Unparted (placing_fields p) × (line_change layout Refs line (body (placing_fields p)) ≡ Ok (Lay p.reference p.block))
-placing_line layout line p e r b =
-    let r' : p.reference < 65536 = omega arith in
-    let u : Unparted (placing_fields p) = (refl, (number p.reference r', (number p.block b, tt))) in
-    let s : Short (placing_fields p) = (omega arith, (seven p.reference r', (seven p.block b, tt))) in
-    (u, of_fields layout Refs line (codes "ref") (decimal p.reference ∷ decimal p.block ∷ []) u s (omega arith) ∙ rw (read p.reference r', read p.block b, e) refl)
+abbrev pub may_place : Bool → Section
+may_place true = Refs
+may_place false = Placement
+
+module _ (w : Prices) (h : Writable w) where
+  five : Unparted (weights_fields w) × Short (weights_fields w)
+  five =
+      ((refl, (number w.w1 h.w1, (number w.w2 h.w2, (number w.w3 h.w3, (number w.w4 h.w4, (number w.wm h.wm, tt)))))),
+      (omega arith, (seven w.w1 h.w1, (seven w.w2 h.w2, (seven w.w3 h.w3, (seven w.w4 h.w4, (seven w.wm h.wm, tt)))))))
+
+pub weights_line : (layout : List ℕ) (o : Bool) (line : ℕ) (w : Prices) → Writable w → Unparted (weights_fields w) × (line_change layout (may_weigh o) line (body (weights_fields w)) ≡ Ok (Weigh w))
+unfolding weights_of
+weights_line layout true line w h =
+    let p = five w h in
+    (p.0, of_fields layout Scenario line (codes "weights") (decimal w.w1 ∷ decimal w.w2 ∷ decimal w.w3 ∷ decimal w.w4 ∷ decimal w.wm ∷ []) p.0 p.1 (omega arith) ∙ rw (read w.w1 h.w1, read w.w2 h.w2, read w.w3 h.w3, read w.w4 h.w4, read w.wm h.wm) refl)
+weights_line layout false line w h =
+    let p = five w h in
+    (p.0, of_fields layout Schedule line (codes "weights") (decimal w.w1 ∷ decimal w.w2 ∷ decimal w.w3 ∷ decimal w.w4 ∷ decimal w.wm ∷ []) p.0 p.1 (omega arith) ∙ rw (read w.w1 h.w1, read w.w2 h.w2, read w.w3 h.w3, read w.w4 h.w4, read w.wm h.wm) refl)
+
+module _ (p : Placing) (r : p.reference < 65536) (b : p.block < 65536) where
+  pair : Unparted (placing_fields p) × Short (placing_fields p)
+  pair = ((refl, (number p.reference r, (number p.block b, tt))), (omega arith, (seven p.reference r, (seven p.block b, tt))))
+
+pub placing_line : (layout : List ℕ) (o : Bool) (line : ℕ) (p : Placing) → slice_get layout p.reference ≡ Some 65536 → p.reference < 256 → p.block < 65536
+    → Unparted (placing_fields p) × (line_change layout (may_place o) line (body (placing_fields p)) ≡ Ok (Lay p.reference p.block))
+placing_line layout true line p e r b =
+    let q = pair p (omega arith) b in
+    (q.0, of_fields layout Refs line (codes "ref") (decimal p.reference ∷ decimal p.block ∷ []) q.0 q.1 (omega arith) ∙ rw (read p.reference (omega arith), read p.block b, e) refl)
+placing_line layout false line p e r b =
+    let q = pair p (omega arith) b in
+    (q.0, of_fields layout Placement line (codes "ref") (decimal p.reference ∷ decimal p.block ∷ []) q.0 q.1 (omega arith) ∙ rw (read p.reference (omega arith), read p.block b, e) refl)
 
 -- the sections in which a step may stand
 abbrev pub may_step : Bool → Section

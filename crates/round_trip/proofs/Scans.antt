@@ -8,16 +8,17 @@ use Rattle.protocol.specs.declared.weights.Prices.{Prices}
 use Rattle.protocol.specs.Prices.{none}
 use Rattle.records.specs.declared.fault.TextFault.TheVariants.{TooLong}
 use Rattle.records.specs.declared.keyword.Section.{Section}
-use Rattle.records.specs.declared.keyword.Section.TheVariants.{Scenario, Refs, Steps}
+use Rattle.records.specs.declared.keyword.Section.TheVariants.{Scenario, Refs, Steps, Placement, Schedule}
 use Rattle.scenario.specs.declared.change.Change.{Change}
 use Rattle.scenario.specs.declared.fault.Fault.TheVariants.{Text, Layout}
 use Rattle.scenario.specs.declared.fault.LayoutFault.TheVariants.{BadTable}
 use Rattle.scenario.specs.Changes.{and_then, line_change}
 use Rattle.scenario.specs.Scan.{State, state, start, scan, changed_by}
 use Rattle.scenario.specs.Reading.{a_read, read_of, section_of}
-use Rattle.scenario.specs.Texts.{unplaced}
+use Rattle.scenario.specs.declared.fault.File.TheVariants.{Placement as PlacementFile, Schedule as ScheduleFile}
+use Rattle.scenario.specs.Texts.{unplaced, in_file}
 use Rattle.report.specs.Lines.{row}
-use Rattle.round_trip.specs.Written.{Placing, Step, Writable, Placeable, Steppable, ReadsBack, weights_fields, placing_fields, step_fields, rows, written, placed, call_of, made_by}
+use Rattle.round_trip.specs.Written.{Placing, Step, Writable, Placeable, Steppable, ReadsBack, PairReadsBack, written_placement, written_schedule, weights_fields, placing_fields, step_fields, rows, written, placed, call_of, made_by}
 use Rattle.round_trip.proofs.Rows.{Unparted, body, row_line}
 use Rattle.round_trip.proofs.Changes.{weights_line, placing_line, step_line, may_step}
 
@@ -53,20 +54,41 @@ placings_read : (w : Prices) (layout : List ℕ) (line : ℕ) (ps : List Placing
 unfolding rows placed
 placings_read w layout line [] ss h g = steps_read w layout [] true line ss g
 placings_read w layout line (p ∷ ps) ss h g =
-    let l = placing_line layout line p h.0 h.1 h.2 in
+    let l = placing_line layout true line p h.0 h.1 h.2 in
     let more = placings_read w (slice_set layout p.reference p.block) (line + 1) ps ss h.3 g in
     (more.0, row_read (state w layout [] Refs) line (placing_fields p) (rows (map placing_fields ps ++ map step_fields ss)) _ l.0 l.1 ∙ more.1)
 
-pub reads_back : ReadsBack
-unfolding section_of rows
-reads_back w ps ss table hw hp hs short full =
-    let text = written w ps ss in
-    let l = weights_line unplaced 1 w hw in
-    let more = placings_read w unplaced 2 ps ss hp hs in
-    let read : scan (start Scenario unplaced) 1 (parts 10 text) ≡ Ok (state w (placed unplaced ps) (map (made_by (placed unplaced ps)) ss) more.0) =
-        row_read (start Scenario unplaced) 1 (weights_fields w) (rows (map placing_fields ps ++ map step_fields ss)) _ l.0 l.1 ∙ more.1
-    in
+placement_read : (layout : List ℕ) (line : ℕ) (ps : List Placing) → Placeable layout ps
+    → scan (state none layout [] Placement) line (parts 10 (rows (map placing_fields ps))) ≡ Ok (state none (placed layout ps) [] Placement)
+unfolding scan parts rows placed
+placement_read layout line [] h = refl
+placement_read layout line (p ∷ ps) h =
+    let l = placing_line layout false line p h.0 h.1 h.2 in
+    row_read (state none layout [] Placement) line (placing_fields p) (rows (map placing_fields ps)) _ l.0 l.1
+    ∙ placement_read (slice_set layout p.reference p.block) (line + 1) ps h.3
+
+-- a text that is not too long comes to what its lines come to
+text_read : (first : Section) (layout text : List ℕ) (st : State) → length text ≤ 65536 → scan (start first layout) 1 (parts 10 text) ≡ Ok st → section_of first layout text ≡ Ok (read_of st)
+unfolding section_of
+text_read first layout text st short read =
     let fits : nat_lt 65536 (length text) ≡ false = grind (arith, nat_tests) in
-    ap (λ n. cond (n == 256) (section_of Scenario unplaced text) (Err (Layout BadTable))) full
-    ∙ ap (λ b. and_then (cond b (Err (Text TooLong)) (scan (start Scenario unplaced) 1 (parts 10 text))) (λ st. Ok (read_of st))) fits
-    ∙ ap (λ r. and_then r (λ st. Ok (read_of st))) read
+    ap (λ b. and_then (cond b (Err (Text TooLong)) (scan (start first layout) 1 (parts 10 text))) (λ x. Ok (read_of x))) fits
+    ∙ ap (λ r. and_then r (λ x. Ok (read_of x))) read
+
+pub reads_back : ReadsBack
+unfolding rows
+reads_back w ps ss table hw hp hs short full =
+    let l = weights_line unplaced true 1 w hw in
+    let more = placings_read w unplaced 2 ps ss hp hs in
+    ap (λ n. cond (n == 256) (section_of Scenario unplaced (written w ps ss)) (Err (Layout BadTable))) full
+    ∙ text_read Scenario unplaced (written w ps ss) _ short (row_read (start Scenario unplaced) 1 (weights_fields w) (rows (map placing_fields ps ++ map step_fields ss)) _ l.0 l.1 ∙ more.1)
+
+pub pair_reads_back : PairReadsBack
+unfolding rows
+pair_reads_back w ps ss hw hp hs short_p short_s =
+    let layout = placed unplaced ps in
+    let m = weights_line layout false 1 w hw in
+    let more = steps_read w layout [] false 2 ss hs in
+    ap (λ r. and_then (in_file PlacementFile r) (λ x. in_file ScheduleFile (section_of Schedule x.layout (written_schedule w ss))))
+      (text_read Placement unplaced (written_placement ps) _ short_p (placement_read unplaced 1 ps hp))
+    ∙ ap (in_file ScheduleFile) (text_read Schedule layout (written_schedule w ss) _ short_s (row_read (start Schedule layout) 1 (weights_fields w) (rows (map step_fields ss)) _ m.0 m.1 ∙ more.1))

@@ -6,7 +6,7 @@ use Rattle.protocol.specs.declared.weights.Prices.{Prices}
 use Rattle.records.specs.declared.keyword.Verb.{Verb}
 use Rattle.records.specs.declared.keyword.Verb.TheVariants.{Read, Write, Commit, Flush, Fetch, Resume}
 use Rattle.scenario.specs.Reading.{a_read}
-use Rattle.scenario.specs.Texts.{unplaced, scenario_of}
+use Rattle.scenario.specs.Texts.{unplaced, scenario_of, single_of}
 use Rattle.report.specs.Lines.{row}
 
 -- a reference, and the block where it is placed
@@ -92,3 +92,16 @@ abbrev pub ReadsBack : Type 0
 ReadsBack = (w : Prices) (ps : List Placing) (ss : List Step) (table : List ℕ) → Writable w → Placeable unplaced ps → Steppable (placed unplaced ps) ss
     → length (written w ps ss) ≤ 65536 → length table ≡ 256
     → scenario_of table (written w ps ss) ≡ Ok (a_read w (placed unplaced ps) (map (made_by (placed unplaced ps)) ss))
+
+-- the same in two texts: a placement, and a schedule
+abbrev pub written_placement : List Placing → List ℕ
+written_placement ps = rows (map placing_fields ps)
+
+abbrev pub written_schedule : Prices → List Step → List ℕ
+written_schedule w ss = rows (weights_fields w ∷ map step_fields ss)
+
+-- a placement and a schedule are read together as the scenario is that has both: the single study of a pair is that scenario's
+abbrev pub PairReadsBack : Type 0
+PairReadsBack = (w : Prices) (ps : List Placing) (ss : List Step) → Writable w → Placeable unplaced ps → Steppable (placed unplaced ps) ss
+    → length (written_placement ps) ≤ 65536 → length (written_schedule w ss) ≤ 65536
+    → single_of (written_placement ps) (written_schedule w ss) ≡ Ok (a_read w (placed unplaced ps) (map (made_by (placed unplaced ps)) ss))

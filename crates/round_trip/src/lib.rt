@@ -2,13 +2,15 @@
 #![tactic(auto)]
 
 ghost use Rattle.std.specs.Prelude.{◌≡◌};
-ghost use Rattle.round_trip.specs.Written.{ReadsBack};
+ghost use Rattle.round_trip.specs.Written.{ReadsBack, PairReadsBack};
 
 // A function for each theorem that a contract names: a theorem is no parameter.
-/// Every scenario that is written as the format says is read back as it was written; the answer is how many theorems that is.
+/// Every scenario that is written as the format says is read back as it was written, and a placement and a schedule that are
+/// written so are read as the scenario that has both; the answer is how many theorems that is.
 pub fn scenarios_read_back() -> u8
-    ensures count { result ≡ 1 }
-    ensures stands { ReadsBack }
+    ensures count { result ≡ 2 }
+    ensures whole { ReadsBack }
+    ensures parted { PairReadsBack }
 {
-    1
+    2
 }

@@ -1,5 +1,8 @@
-use Rattle.round_trip.proofs.Scans.{reads_back}
+use Rattle.round_trip.proofs.Scans.{reads_back, pair_reads_back}
 use Rattle.round_trip.proofs.scenarios_read_back.Goals as goal
 
-pub returns-clause-stands : goal.returns-clause-stands
-returns-clause-stands c = reads_back
+pub returns-clause-whole : goal.returns-clause-whole
+returns-clause-whole c = reads_back
+
+pub returns-clause-parted : goal.returns-clause-parted
+returns-clause-parted c = pair_reads_back
