@@ -19,6 +19,7 @@ use Rattle.study.specs.Play.{history, calls_of}
 use Rattle.scenario.specs.Reading.{a_read}
 use Rattle.scenario.specs.Texts.{scenario_of}
 use Rattle.simulator.specs.Report.{in_full, report_of}
+use Rattle.simulator.specs.Simulation.{opened, schedule_of}
 use Rattle.examples.specs.Nine.{weights, blocks, begun, nine, scenario_text, report_text, layout, over, table_after}
 
 -- what a put of block n gives out, once the calls were made
@@ -61,5 +62,6 @@ pub record Examples : Type 0 where
   pub nine_tally : (a : ℕ) → (over a).tally ≡ tally 8 1 3 300
   -- the table that was lent, afterwards
   pub nine_lent : (a : ℕ) → lent_of (over a).memory ≡ record { name = a; cells = table_after } ∷ []
-  -- the report, byte for byte
-  pub nine_report : (a : ℕ) → report_of in_full (Ok (begun a)) (calls_of nine) ≡ report_text
+  -- from the bytes of the scenario to those of its report
+  pub nine_report : (a : ℕ) (t : List ℕ) → length t ≡ 256
+      → report_of in_full (opened (scenario_of t scenario_text) two_cores (blocks a)) (schedule_of (scenario_of t scenario_text)) ≡ report_text

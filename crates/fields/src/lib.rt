@@ -22,7 +22,7 @@ pub fn cut<'t>(bytes: &'t [u8], sep: u8) -> Option<(&'t [u8], &'t [u8])>
     None
 }
 
-/// The field of a line of one.
+/// The whole, if no tab parts it; else none.
 #[tactic(auto, using(crate::proofs::Cuts::some))]
 pub fn one<'t>(line: &'t [u8]) -> Option<&'t [u8]>
     ensures { MatchOption result (length (parts 9 line.now) ≢ 1) (λ x. parts 9 line.now ≡ x.now ∷ []) }
@@ -33,7 +33,7 @@ pub fn one<'t>(line: &'t [u8]) -> Option<&'t [u8]>
     }
 }
 
-/// The fields of a line of two.
+/// The parts between tabs, if there are just two; else none.
 #[tactic(auto, using(crate::proofs::Cuts::some))]
 pub fn two<'t>(line: &'t [u8]) -> Option<(&'t [u8], &'t [u8])>
     ensures { MatchOption result (length (parts 9 line.now) ≢ 2) (λ x. parts 9 line.now ≡ x.0.now ∷ x.1.now ∷ []) }
@@ -42,10 +42,10 @@ pub fn two<'t>(line: &'t [u8]) -> Option<(&'t [u8], &'t [u8])>
     Some((a, one(rest)?))
 }
 
-/// Five parts of a text.
+/// Five parts.
 pub type Five<'t> = (&'t [u8], &'t [u8], &'t [u8], &'t [u8], &'t [u8]);
 
-/// The fields of a line of five.
+/// The parts between tabs, if there are just five; else none.
 #[tactic(auto, using(crate::proofs::Cuts::some))]
 pub fn five<'t>(line: &'t [u8]) -> Option<Five<'t>>
     ensures { MatchOption result (length (parts 9 line.now) ≢ 5) (λ (a, b, c, d, e). parts 9 line.now ≡ a.now ∷ b.now ∷ c.now ∷ d.now ∷ e.now ∷ []) }

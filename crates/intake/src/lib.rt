@@ -3,7 +3,7 @@
 
 ghost use Rattle.std.specs.Prelude.{◌≡◌, IfOk, IfSome, take, vec_items};
 
-use scenario::reader::MOST_BYTES;
+use scenario::reader::MOST_TEXT;
 use std::alloc::Global;
 use std::io;
 use std::io::Read;
@@ -12,7 +12,7 @@ use std::io::Read;
 fn most() -> u64
     ensures { result ≡ 65537 }
 {
-    MOST_BYTES as u64 + 1
+    MOST_TEXT as u64 + 1
 }
 
 /// The bytes of an input, but no more than one above those that a text may have.

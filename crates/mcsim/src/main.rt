@@ -6,7 +6,7 @@ use anyhow::anyhow;
 use machine::two_cores;
 use memory::cell::{Cell, State};
 use memory::flat::Flat;
-use scenario::layout::REFERENCES;
+use scenario::layout::{REFERENCES, UNPLACED};
 use simulator::simulate::simulate;
 use std::env;
 use std::fs::File;
@@ -29,7 +29,7 @@ const CELL: Cell = Cell {
 };
 
 fn report(rt: &HostRuntime, text: &[u8]) -> anyhow::Result<()> {
-    let mut layout = [0u32; REFERENCES];
+    let mut layout = [UNPLACED; REFERENCES];
     let mut table = [CELL; 16];
     let row = two_cores(rt.alloc())?;
     let mut out = BufWriter::new(rt.alloc(), rt.stdout())?;

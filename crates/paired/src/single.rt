@@ -23,8 +23,8 @@ pub struct SingleStudy<R, M> {
     pub outcome: Result<Quote, FileFault>,
 }
 
-/// Reads a placement and a schedule, plays the study on this row and this memory, and tells it as one side of a pair. It is played to its end
-/// even where it cannot be written.
+/// Reads a placement and a schedule, plays the study on this row and this memory, and tells it as one side of a pair. It is
+/// played to its end even where it cannot be written.
 pub fn single<R: Row, M: Memory, W: Write>(
     side: Side,
     placement: &[u8],

@@ -8,7 +8,7 @@ use crate::keyword::{Keyword, Section, Verb};
 use fields::{TAB, cut, five, one, two};
 
 /// The most bytes of a line, without its line feed.
-pub const MOST_BYTES: usize = 80;
+pub const MOST_LINE: usize = 80;
 
 /// A field: a part of the text, with its place.
 #[derive(Clone, Copy)]
@@ -131,7 +131,7 @@ impl<'t> Record<'t> {
     pub fn read(bytes: &'t [u8], line: u32, section: Section) -> Result<Record<'t>, TextFault>
         ensures { recorded result ≡ line_of section line bytes.now }
     {
-        if bytes.len() > MOST_BYTES {
+        if bytes.len() > MOST_LINE {
             return Err(TextFault::Unended { line });
         }
         let (word, rest) = match cut(bytes, TAB) {

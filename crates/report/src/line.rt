@@ -4,7 +4,7 @@ ghost use Rattle.std.specs.Prelude.{◌≡◌, ◌+◌, ◌<◌, ◌≤◌, [], 
 use itoa::write_digits;
 use std::marker::Model;
 
-/// The room for a line. The longest has five short words and three numbers of at most 20 digits.
+/// The room for a line. The longest has four short words and three numbers of at most 20 digits.
 const ROOM: usize = 96;
 
 /// One line of a report, with its line feed.

@@ -13,6 +13,3 @@ free at (Some n) = cond (n == 65536) (Ok tt) (Err (Taken at))
 abbrev pub block_at : Place → Option ℕ → Result ℕ LayoutFault
 block_at at None = Err (Unplaced at)
 block_at at (Some n) = cond (nat_lt n 65536) (Ok n) (Err (Unplaced at))
-
-abbrev pub unplaced : ℕ → List ℕ
-unplaced n = replicate n 65536

@@ -14,7 +14,7 @@ use records::fault::TextFault;
 use records::keyword::Section;
 
 /// The most bytes of a text.
-pub const MOST_BYTES: usize = 65_536;
+pub const MOST_TEXT: usize = 65_536;
 
 /// A text that was read: its weights, and its steps, which stay in it.
 #[derive(Clone, Copy)]
@@ -81,15 +81,19 @@ fn lines<'t>(text: &'t [u8], layout: &mut [u32], first: Section) -> Result<Text<
 fn whole<'t>(text: &'t [u8], layout: &mut [u32], first: Section) -> Result<Text<'t>, Fault>
     ensures { read_as result layout.new ≡ section_of first layout.old text.now }
 {
-    if text.len() > MOST_BYTES {
+    if text.len() > MOST_TEXT {
         return Err(Fault::from(TextFault::TooLong));
     }
     lines(text, layout, first)
 }
 
-/// Reads a text that begins in this section, under a layout in which it places what its lines place. If it has a fault, nothing
-/// is placed.
-pub fn read<'t>(text: &'t [u8], layout: &mut [u32], first: Section) -> Result<Text<'t>, Fault>
+// Reads a text that begins in this section, under a layout in which it places what its lines place. If it has a fault, nothing
+// is placed.
+pub(crate) fn read<'t>(
+    text: &'t [u8],
+    layout: &mut [u32],
+    first: Section,
+) -> Result<Text<'t>, Fault>
     ensures answer { read_as result layout.new ≡ section_of first layout.old text.now }
     ensures table { layout.new ≡ laid (length layout.old) (section_of first layout.old text.now) }
 {

@@ -1,13 +1,13 @@
 -- What a beginning of the code came to.
 use Rattle.std.specs.Prelude.{List, Ok, Err, Result}
 use Rattle.memory.specs.Meaning.{MemoryMeaning}
-use Rattle.protocol.specs.declared.refusal.Refusal.{Refusal}
+use Rattle.scenario.specs.declared.fault.Fault.{Fault}
 use Rattle.row.specs.Cores.{CoreMeaning}
 use Rattle.study.specs.declared.stages.Run.{Run}
 use Rattle.study.specs.Run.{RunMeaning}
 use Rattle.study.specs.Stages.{run_of}
 use Rattle.simulator.specs.declared.begin.Refused.{Refused}
 
-abbrev pub begun_as : {R M : Type 0} → (R → List CoreMeaning) → (M → MemoryMeaning) → Result (Run R M) (Refused R M) → Result RunMeaning Refusal
+abbrev pub begun_as : {R M : Type 0} → (R → List CoreMeaning) → (M → MemoryMeaning) → Result (Run R M) (Refused R M) → Result RunMeaning Fault
 begun_as cores meaning (Ok r) = Ok (run_of cores meaning r)
-begun_as cores meaning (Err e) = Err e.refusal
+begun_as cores meaning (Err e) = Err e.fault

@@ -1,5 +1,5 @@
 -- From the bytes of a scenario to what its study leaves.
-use Rattle.std.specs.Prelude.{ℕ, List, [], Ok, Err, Result, length, replicate, cond, ◌==◌}
+use Rattle.std.specs.Prelude.{ℕ, List, [], Ok, Err, Result, length, replicate}
 use Rattle.memory.specs.Meaning.{MemoryMeaning}
 use Rattle.protocol.specs.declared.call.Call.{Call}
 use Rattle.protocol.specs.declared.refusal.Refusal.{Refusal}
@@ -14,8 +14,9 @@ use Rattle.study.specs.Settling.{quote_of}
 use Rattle.scenario.specs.declared.fault.Fault.{Fault}
 use Rattle.scenario.specs.declared.fault.Fault.TheVariants.{Study}
 use Rattle.scenario.specs.declared.reader.Text.{Text}
+use Rattle.scenario.specs.Changes.{and_then}
 use Rattle.scenario.specs.Reading.{Read, read_as}
-use Rattle.scenario.specs.Texts.{unplaced, table_after}
+use Rattle.scenario.specs.Texts.{table_after}
 
 -- a text of the code, read into this layout
 abbrev pub asked : Text → List ℕ → Result Read Fault
@@ -59,5 +60,4 @@ layout_after (Err e) layout = replicate (length layout) 65536
 
 -- the layout table afterwards: the placements of a study that was opened, or nothing placed; one of another length is left
 abbrev pub table_left : Result RunMeaning Fault → List ℕ → Result Read Fault → List ℕ
-table_left (Ok r) table t = table_after table t
-table_left (Err e) table t = cond (length table == 256) unplaced table
+table_left o table t = table_after table (and_then o (λ _. t))

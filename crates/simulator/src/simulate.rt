@@ -29,7 +29,8 @@ pub struct Simulated<R, M> {
     pub written: io::Result<()>,
 }
 
-/// Plays the study that a text asks for, once it was read into a layout, on this row and this memory, and tells it.
+/// Plays the study that a text asks for on this row and this memory, and tells it. The layout has to be the one that the text was
+/// read into: under another, the steps end at the first that it does not place.
 pub fn simulate_text<R: Row, M: Memory, W: Write, T: Telling>(
     telling: &T,
     text: Text<'_>,
@@ -50,12 +51,11 @@ pub fn simulate_text<R: Row, M: Memory, W: Write, T: Telling>(
         Ok(run) => run,
         Err(refused) => {
             unplace(layout);
-            let fault = Fault::from(refused.refusal);
             return Simulated {
                 row: refused.row,
                 memory: refused.memory,
-                outcome: Err(fault),
-                written: write(report, Ok(()), Some(telling.fault(fault))),
+                outcome: Err(refused.fault),
+                written: write(report, Ok(()), Some(telling.fault(refused.fault))),
             };
         }
     };
@@ -71,7 +71,8 @@ pub fn simulate_text<R: Row, M: Memory, W: Write, T: Telling>(
 }
 
 /// Reads a scenario, plays its study on this row and this memory, and writes the report. A scenario with a fault leaves the
-/// layout unplaced, and touches neither row nor memory. All steps are played even where the report cannot be written.
+/// layout unplaced (one of another length as it was), and touches neither row nor memory. All steps are played even where the
+/// report cannot be written.
 pub fn simulate<R: Row, M: Memory, W: Write>(
     text: &[u8],
     layout: &mut [u32],

@@ -1,24 +1,30 @@
 -- The definitions compute.
-use Rattle.std.proofs.Common.{◌-◌, ◌==◌, min, cond, Err, refl, ap}
+use Rattle.std.proofs.Common.{◌≡◌, ℕ, ◌-◌, ◌==◌, min, cond, List, length, Ok, Err, refl, ap}
 use Rattle.std.specs.Fmt.{digits}
 use Rattle.fields.specs.Parts.{parts}
 use Rattle.row.specs.Cores.{absent, core_at, place, invalidated, met, awaited, renewed}
 use Rattle.study.specs.Step.{step}
 use Rattle.study.specs.Opening.{zeroed}
-use Rattle.study.specs.Play.{played, history}
+use Rattle.study.specs.Play.{played, history, calls_of}
 use Rattle.scenario.specs.Changes.{weights_of, line_change}
 use Rattle.scenario.specs.Scan.{scan}
 use Rattle.records.specs.declared.keyword.Section.TheVariants.{Scenario}
 use Rattle.scenario.specs.declared.fault.Fault.TheVariants.{Layout}
 use Rattle.scenario.specs.declared.fault.LayoutFault.TheVariants.{BadTable}
-use Rattle.scenario.specs.Reading.{section_of}
-use Rattle.scenario.specs.Texts.{unplaced}
-use Rattle.simulator.specs.Report.{turn_lines}
-use Rattle.examples.specs.Nine.{scenario_text}
+use Rattle.scenario.specs.Reading.{a_read, section_of}
+use Rattle.scenario.specs.Texts.{unplaced, scenario_of}
+use Rattle.simulator.specs.Report.{in_full, report_of, turn_lines}
+use Rattle.simulator.specs.Simulation.{opened, schedule_of}
+use Rattle.machine.specs.Machine.{two_cores}
+use Rattle.examples.specs.Nine.{weights, blocks, nine, scenario_text, layout}
 use Rattle.examples.proofs.examples_hold.Goals as goal
 
+read : (t : List ℕ) → length t ≡ 256 → scenario_of t scenario_text ≡ Ok (a_read weights layout (calls_of nine))
+unfolding parts weights_of line_change scan section_of
+read t e = ap (λ n. cond (n == 256) (section_of Scenario unplaced scenario_text) (Err (Layout BadTable))) e
+
 pub returns-clause-hold : goal.returns-clause-hold
-unfolding step played history absent core_at place invalidated met awaited renewed zeroed parts weights_of line_change scan section_of turn_lines digits
+unfolding step played history absent core_at place invalidated met awaited renewed zeroed turn_lines digits
 returns-clause-hold c = record {
   direct_two = refl;
   set_touched = refl;
@@ -30,10 +36,10 @@ returns-clause-hold c = record {
   figure_whole = refl;
   figure_third = refl;
   figure_none = refl;
-  nine_read = λ t e. ap (λ n. cond (n == 256) (section_of Scenario unplaced scenario_text) (Err (Layout BadTable))) e;
+  nine_read = read;
   nine_begin = λ a. refl;
   nine_history = λ a. refl;
   nine_tally = λ a. refl;
   nine_lent = λ a. refl;
-  nine_report = λ a. refl;
+  nine_report = λ a t e. ap (λ r. report_of in_full (opened r two_cores (blocks a)) (schedule_of r)) (read t e);
 }
