@@ -5,7 +5,7 @@ ghost use Rattle.std.specs.Prelude.{◌≡◌};
 ghost use Rattle.examples.specs.Examples.{Examples};
 ghost use Rattle.examples.specs.Premises.{Premises};
 
-// A function for each theorem that a contract names: a theorem is no parameter.
+// A theorem has to be named by some function's contract, or the check would not ask for its proof.
 /// The examples hold of the definitions; the answer is how many there are.
 pub fn examples_hold() -> u8
     ensures count { result ≡ 16 }
@@ -14,7 +14,7 @@ pub fn examples_hold() -> u8
     16
 }
 
-// As above: a theorem is no parameter.
+// As above.
 /// What is shipped meets the premises of what is proved of every study; the answer is how many there are.
 pub fn premises_met() -> u8
     ensures count { result ≡ 12 }

@@ -1,4 +1,4 @@
-//! The nine calls over a lent table, and a study that is refused. What is written for any row is checked sooner.
+//! The nine calls over a lent table, and a study that is refused. The functions are generic over the row, which makes their check shorter.
 use direct::direct::Direct;
 use lent_study::simulate_in_table;
 use machine::two_cores;
