@@ -1,20 +1,17 @@
 -- What the lines that were written change.
-use Rattle.std.proofs.Common.{◌≡◌, ℕ, ◌+◌, ◌*◌, ◌<◌, ◌≤◌, ◌^◌, Bool, true, false, cond, List, [], ◌∷◌, ◌++◌, length, get_or, slice_get, decimal, codes, nat_lt, Some, Ok, Err, Result, sym, refl, ap, ◌∙◌, arith, rules}
+use Rattle.std.proofs.Common.{◌≡◌, ℕ, ◌+◌, ◌*◌, ◌<◌, ◌≤◌, Bool, true, false, List, [], ◌∷◌, length, get_or, slice_get, decimal, codes, nat_lt, Some, Ok, refl, ◌∙◌, arith}
 use Rattle.std.proofs.lemmas.Bool.Decides.{nat_tests}
 use Rattle.std.proofs.lemmas.Fmt.{length-decimal-le}
 use Rattle.std.proofs.lemmas.List.{length-append}
 use Rattle.numeral.specs.Number.{number_of}
 use Rattle.numeral.proofs.Decimals.{reads_decimals}
 use Rattle.protocol.specs.declared.weights.Prices.{Prices}
-use Rattle.records.specs.declared.fault.TextFault.TheVariants.{Unended}
 use Rattle.records.specs.declared.keyword.Verb.{Verb}
 use Rattle.records.specs.declared.keyword.Verb.TheVariants.{Read, Write, Commit, Flush, Fetch, Resume}
 use Rattle.records.specs.declared.keyword.Section.{Section}
 use Rattle.records.specs.declared.keyword.Section.TheVariants.{Scenario, Refs, Steps, Placement, Schedule}
 use Rattle.records.specs.Lines.{record_of}
-use Rattle.scenario.specs.declared.change.Change.{Change}
 use Rattle.scenario.specs.declared.change.Change.TheVariants.{Weigh, Lay, Make}
-use Rattle.scenario.specs.declared.fault.Fault.{Fault}
 use Rattle.scenario.specs.Changes.{and_then, as_text, change_of, weights_of, line_change}
 use Rattle.round_trip.specs.Written.{Placing, Writable, weights_fields, placing_fields, step_fields_of, call_of, NamesPlaced}
 use Rattle.round_trip.proofs.Rows.{unparted, Unparted, number, body, fields}
@@ -63,9 +60,10 @@ may_place false = Placement
 
 module _ (w : Prices) (h : Writable w) where
   five : Unparted (weights_fields w) × Short (weights_fields w)
-  five =
-      ((refl, (number w.w1 h.w1, (number w.w2 h.w2, (number w.w3 h.w3, (number w.w4 h.w4, (number w.wm h.wm, tt)))))),
-      (omega arith, (seven w.w1 h.w1, (seven w.w2 h.w2, (seven w.w3 h.w3, (seven w.w4 h.w4, (seven w.wm h.wm, tt)))))))
+  five = (
+    (refl, (number w.w1 h.w1, (number w.w2 h.w2, (number w.w3 h.w3, (number w.w4 h.w4, (number w.wm h.wm, tt)))))),
+    (omega arith, (seven w.w1 h.w1, (seven w.w2 h.w2, (seven w.w3 h.w3, (seven w.w4 h.w4, (seven w.wm h.wm, tt)))))),
+  )
 
 pub weights_line : (layout : List ℕ) (o : Bool) (line : ℕ) (w : Prices) → Writable w → Unparted (weights_fields w) × (line_change layout (may_weigh o) line (body (weights_fields w)) ≡ Ok (Weigh w))
 unfolding weights_of

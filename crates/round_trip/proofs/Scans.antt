@@ -1,5 +1,5 @@
 -- A text that was written is read line after line.
-use Rattle.std.proofs.Common.{◌≡◌, ℕ, ◌+◌, ◌<◌, ◌≤◌, Bool, true, false, cond, List, [], ◌∷◌, ◌++◌, map, length, slice_set, nat_lt, ◌==◌, Ok, Err, Result, sym, refl, ap, ◌∙◌, arith, rules, append_assoc, append-nil}
+use Rattle.std.proofs.Common.{◌≡◌, ℕ, ◌+◌, ◌≤◌, Bool, true, false, cond, List, [], ◌∷◌, ◌++◌, map, length, slice_set, nat_lt, ◌==◌, Ok, Err, sym, refl, ap, ◌∙◌, arith, append_assoc, append-nil}
 use Rattle.std.proofs.lemmas.Bool.Decides.{nat_tests}
 use Rattle.fields.specs.Parts.{parts}
 use Rattle.fields.proofs.Cuts.{some}
@@ -14,11 +14,11 @@ use Rattle.scenario.specs.declared.fault.Fault.TheVariants.{Text, Layout}
 use Rattle.scenario.specs.declared.fault.LayoutFault.TheVariants.{BadTable}
 use Rattle.scenario.specs.Changes.{and_then, line_change}
 use Rattle.scenario.specs.Scan.{State, state, start, scan, changed_by}
-use Rattle.scenario.specs.Reading.{a_read, read_of, section_of}
+use Rattle.scenario.specs.Reading.{read_of, section_of}
 use Rattle.scenario.specs.declared.fault.File.TheVariants.{Placement as PlacementFile, Schedule as ScheduleFile}
 use Rattle.scenario.specs.Texts.{unplaced, in_file}
 use Rattle.report.specs.Lines.{row}
-use Rattle.round_trip.specs.Written.{Placing, Step, Writable, Placeable, Steppable, ReadsBack, PairReadsBack, written_placement, written_schedule, weights_fields, placing_fields, step_fields, rows, written, placed, call_of, made_by}
+use Rattle.round_trip.specs.Written.{Placing, Step, Placeable, Steppable, ReadsBack, PairReadsBack, written_placement, written_schedule, weights_fields, placing_fields, step_fields, rows, written, placed, made_by}
 use Rattle.round_trip.proofs.Rows.{Unparted, body, row_line}
 use Rattle.round_trip.proofs.Changes.{weights_line, placing_line, step_line, may_step}
 
@@ -42,11 +42,10 @@ steps_read w layout ks false line [] h = (Steps, ap (λ x. Ok (state w layout x 
 steps_read w layout ks o line (x ∷ ss) h =
     let l = step_line layout o line x.verb x.core x.reference h.0 h.1 in
     let k = made_by layout x in
-    let more = steps_read w layout (ks ++ k ∷ []) false (line + 1) ss h.2 in
-    (
+    let more = steps_read w layout (ks ++ k ∷ []) false (line + 1) ss h.2 in (
       more.0,
       row_read (state w layout ks (may_step o)) line (step_fields x) (rows (map step_fields ss)) _ l.0 l.1
-      ∙ more.1 ∙ ap (λ y. Ok (state w layout y more.0)) (append_assoc ks (k ∷ []) (map (made_by layout) ss)),
+          ∙ more.1 ∙ ap (λ y. Ok (state w layout y more.0)) (append_assoc ks (k ∷ []) (map (made_by layout) ss)),
     )
 
 placings_read : (w : Prices) (layout : List ℕ) (line : ℕ) (ps : List Placing) (ss : List Step) → Placeable layout ps → Steppable (placed layout ps) ss
@@ -90,5 +89,5 @@ pair_reads_back w ps ss hw hp hs short_p short_s =
     let m = weights_line layout false 1 w hw in
     let more = steps_read w layout [] false 2 ss hs in
     ap (λ r. and_then (in_file PlacementFile r) (λ x. in_file ScheduleFile (section_of Schedule x.layout (written_schedule w ss))))
-      (text_read Placement unplaced (written_placement ps) _ short_p (placement_read unplaced 1 ps hp))
+    (text_read Placement unplaced (written_placement ps) _ short_p (placement_read unplaced 1 ps hp))
     ∙ ap (in_file ScheduleFile) (text_read Schedule layout (written_schedule w ss) _ short_s (row_read (start Schedule layout) 1 (weights_fields w) (rows (map step_fields ss)) _ m.0 m.1 ∙ more.1))

@@ -1,5 +1,5 @@
 -- The layout table: for each reference its block, or 65,536 if it is unplaced.
-use Rattle.std.specs.Prelude.{ℕ, cond, List, replicate, Some, None, Ok, Err, Option, Result, ◌==◌, nat_lt}
+use Rattle.std.specs.Prelude.{ℕ, cond, Some, None, Ok, Err, Option, Result, ◌==◌, nat_lt}
 use Rattle.records.specs.declared.fault.Place.{Place}
 use Rattle.scenario.specs.declared.fault.LayoutFault.{LayoutFault}
 use Rattle.scenario.specs.declared.fault.LayoutFault.TheVariants.{Taken, Unplaced}
