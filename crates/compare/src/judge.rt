@@ -117,7 +117,7 @@ fn play_again(
     }
     let report = match job {
         Job::Side(name, placement, schedule) => {
-            reference::side(heap, machine, name, placement, schedule, layout)?
+            reference::side(heap, machine, name, placement, schedule)?
         }
         Job::Scenario(text) => reference::simulate(heap, machine, text, layout)?,
         Job::Calls(_, _) => reference::simulate(heap, machine, b"", layout)?,

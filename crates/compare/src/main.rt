@@ -20,7 +20,6 @@ mod scenarios;
 mod score;
 mod script;
 mod tables;
-mod temporary;
 
 use anyhow::anyhow;
 use score::Score;

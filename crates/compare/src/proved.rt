@@ -1,7 +1,6 @@
 //! The simulator's side of a comparison: all calls of what is compared with the reference.
 
 use crate::job::{Job, Told, summary};
-use crate::temporary;
 use memory::Memory;
 use protocol::weights::Prices;
 use protocol::{answer, call};
@@ -9,6 +8,10 @@ use reference::calls::{Call, Kind, Turn, Word};
 use row::Row;
 use std::alloc::{AllocError, Global};
 use study::stages::Draft;
+use report::line::Line;
+use report::paired::Side;
+use simulator::simulate::simulate;
+use paired::single::single;
 use study::turn;
 
 /// A call of the reference as the simulator names it. Numbers above 65,535 do not occur.
@@ -98,23 +101,42 @@ pub(crate) fn play<R: Row + Drop, M: Memory + Drop>(
     layout: &mut [u32],
     job: Job,
 ) -> Result<Told, AllocError> {
+    let mut text = Vec::new(heap);
     match job {
-        // TEMPORARY: a call of simulator::simulate comes here
-        Job::Scenario(text) => temporary::simulate(heap, row, memory, layout, text),
-        // TEMPORARY: a call of paired::single comes here
+        Job::Scenario(asked) => {
+            let told = simulate(asked, layout, row, memory, &mut text);
+            if told.written.is_err() {
+                return Err(AllocError);
+            }
+            let figure = told.outcome.ok().and_then(|quote| quote.figure);
+            Ok(Told {
+                text,
+                turns: Vec::new(heap),
+                figure,
+            })
+        }
         Job::Side(name, placement, schedule) => {
-            temporary::single(heap, row, memory, layout, name, placement, schedule)
+            let side = if name == "a" { Side::A } else { Side::B };
+            let (study, written) = single(side, placement, schedule, row, memory, &mut text);
+            if written.is_err() {
+                return Err(AllocError);
+            }
+            let figure = study.outcome.ok().and_then(|quote| quote.figure);
+            Ok(Told {
+                text,
+                turns: Vec::new(heap),
+                figure,
+            })
         }
         Job::Calls(weights, calls) => play_calls(heap, row, memory, weights, calls),
     }
 }
 
 /// The last line of a paired study.
-// TEMPORARY: a call of paired comes here
 pub(crate) fn difference(
     heap: Global,
     a: Option<u64>,
     b: Option<u64>,
 ) -> Result<Vec<u8>, AllocError> {
-    reference::difference(heap, a, b)
+    Vec::from_slice(heap, Line::of_difference(a, b).bytes())
 }

@@ -41,7 +41,6 @@ pub fn side(
     name: &str,
     placement: &[u8],
     schedule: &[u8],
-    layout: &mut [u32],
 ) -> Result<Report, AllocError>
     ensures ends_in_line_feed { IfOk result (λ r. slice_get r.text.items (vec_len r.text - 1) ≡ Some 10) }
 {
@@ -49,7 +48,7 @@ pub fn side(
         heap,
         machine,
         Source::Side(name, placement, schedule),
-        layout,
+        &mut [0; 256],
     )?;
     report.text.push(b'\n')?;
     Ok(report)
