@@ -3,53 +3,32 @@
 use crate::random::Random;
 use std::alloc::{AllocError, Global};
 
-// What a number is exchanged for, and what is put before or after one.
-const NUMBERS: [&[u8]; 24] = [
+// What is put in, mostly in place of a number or beside one.
+const PIECES: [&[u8]; 35] = [
     b"0",
     b"1",
-    b"7",
     b"00",
-    b"01",
-    b"15",
     b"16",
     b"255",
     b"256",
-    b"257",
     b"1000",
     b"1001",
-    b"2000",
-    b"9999",
     b"65535",
     b"65536",
-    b"99999",
     b"100000",
-    b"4294967296",
     b"18446744073709551616",
     b"",
     b"-0",
     b"+1",
     b"1e3",
-];
-
-const PIECES: [&[u8]; 30] = [
     b"\t",
     b"\n",
     b"\r",
     b" ",
-    b"0",
-    b"1",
-    b"9",
-    b"+",
-    b"-",
-    b"a",
-    b"b",
     b"t",
     b"w",
     b"\x00",
-    b"\x0b",
     b"\xff",
-    b"",
-    b"",
     b"weights\t0\t0\t0\t0\t0\n",
     b"ref\t9\t9\n",
     b"ref\t256\t1\n",
@@ -57,7 +36,6 @@ const PIECES: [&[u8]; 30] = [
     b"read\t0\t255\n",
     b"fetch\t0\t\n",
     b"resume\t65536\n",
-    b"Commit\t0\t0\n",
     b"\t\n",
     b"\r\n",
     b"reads\t0\t0\n",
@@ -89,8 +67,7 @@ pub(crate) fn damaged(
     let (line, line_end) = around(text, place, false);
     let (field, field_end) = around(text, place, true);
     let next_line = line_end.saturating_add(1);
-    let piece = PIECES[random.below(30) % 30];
-    let number = NUMBERS[random.below(24) % 24];
+    let piece = PIECES[random.below(35) % 35];
     let bytes = text.get(line..next_line).unwrap_or(b"");
     let (start, end, with) = match random.below(13) {
         0 => (place, next, piece),
@@ -104,7 +81,7 @@ pub(crate) fn damaged(
         8 => (0, 0, bytes),
         9 => (text.len(), text.len(), bytes),
         10 => (place, text.len(), piece),
-        _ => (field, field_end, number),
+        _ => (field, field_end, piece),
     };
     let mut edited = Vec::from_slice(heap, text.get(..start).unwrap_or(text))?;
     edited.extend_from_slice(with)?;

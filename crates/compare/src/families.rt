@@ -28,7 +28,11 @@ fn good(rt: &HostRuntime, score: &mut Score, named: Named, cases: u64) -> io::Re
     for seed in 0..cases {
         let mut random = Random::new(seed);
         let text = scenario(rt.alloc(), &mut random, cores, 400)?;
-        score.judge(rt, Setting::new(kind, seed), Asked::Scenario(text.as_bytes()))?;
+        score.judge(
+            rt,
+            Setting::new(kind, seed),
+            Asked::Scenario(text.as_bytes()),
+        )?;
     }
     score.close(rt, "good scenarios on ", name)
 }
@@ -39,7 +43,11 @@ fn bad(rt: &HostRuntime, score: &mut Score, named: Named, cases: u64) -> io::Res
         let mut random = Random::new(seed);
         let text = scenario(rt.alloc(), &mut random, cores, 12)?;
         let text = spoilt(rt.alloc(), &mut random, text.as_bytes())?;
-        score.judge(rt, Setting::new(kind, seed), Asked::Scenario(text.as_slice()))?;
+        score.judge(
+            rt,
+            Setting::new(kind, seed),
+            Asked::Scenario(text.as_slice()),
+        )?;
     }
     score.close(rt, "damaged scenarios on ", name)
 }
@@ -90,8 +98,16 @@ fn edges(rt: &HostRuntime, score: &mut Score) -> io::Result<()> {
             let setting = Setting::new(kind, 5);
             let rest = text.get(18..).unwrap_or(b"");
             score.judge(rt, setting, Asked::Scenario(text))?;
-            score.judge(rt, setting, Asked::Pair(b"ref\t7\t1\nref\t8\t1\n", text, text))?;
-            score.judge(rt, setting, Asked::Pair(rest, b"", b"weights\t1\t1\t1\t1\t1001\n"))?;
+            score.judge(
+                rt,
+                setting,
+                Asked::Pair(b"ref\t7\t1\nref\t8\t1\n", text, text),
+            )?;
+            score.judge(
+                rt,
+                setting,
+                Asked::Pair(rest, b"", b"weights\t1\t1\t1\t1\t1001\n"),
+            )?;
         }
         score.close(rt, "texts at the edges of the format on ", name)?;
     }
@@ -104,7 +120,11 @@ fn limits(rt: &HostRuntime, score: &mut Score) -> io::Result<()> {
     for bytes in 65_534..65_539 {
         let text = measured(heap, bytes)?;
         score.judge(rt, setting, Asked::Scenario(text.as_slice()))?;
-        score.judge(rt, setting, Asked::Pair(text.as_slice(), b"", text.as_slice()))?;
+        score.judge(
+            rt,
+            setting,
+            Asked::Pair(text.as_slice(), b"", text.as_slice()),
+        )?;
         score.judge(rt, setting, Asked::Pair(b"", b"", text.as_slice()))?;
     }
     score.close(rt, "texts of about 65,536 bytes", "")?;
@@ -138,7 +158,11 @@ fn tables(rt: &HostRuntime, score: &mut Score) -> io::Result<()> {
             }
         }
     }
-    score.close(rt, "layout tables of about 256 entries, and tables of 0 to 4,097 cells", "")
+    score.close(
+        rt,
+        "layout tables of about 256 entries, and tables of 0 to 4,097 cells",
+        "",
+    )
 }
 
 /// Runs every family.

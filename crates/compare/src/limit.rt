@@ -37,7 +37,10 @@ pub(crate) fn agreeing(heap: Global) -> Result<usize, AllocError> {
         Machine {
             levels: &[(0, Level::Direct(1))],
             parts: &[Part::Flat(2)],
-            cells: vec![in heap; Again { valid: false, stamp: 5 }; 2]?,
+            cells: vec![in heap; Again {
+                valid: false,
+                stamp: 5
+            }; 2]?,
         },
     )?;
     let mut count = 0usize;

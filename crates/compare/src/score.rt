@@ -99,7 +99,11 @@ fn tried<'a>(
 }
 
 fn show(rt: &HostRuntime, title: &str, text: &[u8]) -> io::Result<()> {
-    println!(rt; "-- {title}, {} bytes:\n{}", text.len(), String::from_utf8_lossy(rt.alloc(), text)?)
+    println!(rt;
+        "-- {title}, {} bytes:\n{}",
+        text.len(),
+        String::from_utf8_lossy(rt.alloc(), text)?
+    )
 }
 
 // Shows a case in full.

@@ -34,65 +34,70 @@ const CELL: Cell = Cell {
     stamp: 0,
 };
 
-// What the reference tells and leaves.
-fn play_again(
+// The second side is played on mcsim's machine.
+fn pair_again(
     heap: Global,
-    trial: &mut Trial,
+    out: &mut String,
     machine: Machine,
+    (a, b, schedule): (&[u8], &[u8], &[u8]),
 ) -> Result<Vec<Again>, AllocError> {
-    let out = &mut trial.again;
-    match trial.asked {
-        Asked::Scenario(text) => {
-            let layout = trial.layout_again.as_mut_slice();
-            Ok(reference::simulate(heap, out, machine, text, layout)?.cells)
-        }
-        Asked::Pair(a, b, schedule) => {
-            let other = Machine {
-                levels: &MCSIM,
-                parts: &[Part::Flat(16)],
-                cells: vec![in heap; Again { valid: false, stamp: 0 }; 16]?,
-            };
-            let first = reference::side(heap, out, machine, "a\t", a, schedule)?;
-            let second = reference::side(heap, out, other, "b\t", b, schedule)?;
-            reference::difference(out, first.figure, second.figure)?;
-            Ok(first.cells)
-        }
-    }
+    let other = Machine {
+        levels: &MCSIM,
+        parts: &[Part::Flat(16)],
+        cells: vec![in heap; Again {
+            valid: false,
+            stamp: 0
+        }; 16]?,
+    };
+    let first = reference::side(heap, out, machine, "a\t", a, schedule)?;
+    let second = reference::side(heap, out, other, "b\t", b, schedule)?;
+    reference::difference(out, first.figure, second.figure)?;
+    Ok(first.cells)
+}
+
+// The same by the simulator; tells whether all was written.
+fn pair<R: Row + Drop, M: Memory + Drop>(
+    heap: Global,
+    out: &mut Vec<u8>,
+    a: Placement<'_, R, M>,
+    text: &[u8],
+    schedule: &[u8],
+) -> Result<bool, AllocError> {
+    let row = two_cores(heap)?;
+    let mut table = [CELL; 16];
+    let memory = Flat::over(&mut table);
+    let b = Placement { text, row, memory };
+    Ok(compare(a, b, schedule, out).written.is_ok())
 }
 
 /// Tries a machine, which comes with its levels and the parts of its memory.
-pub(crate) fn run<R: Row + Drop, M: Memory + Drop>(
+pub(crate) fn run<'m, R: Row + Drop, M: Memory + Drop>(
     heap: Global,
     trial: &mut Trial,
-    row: R,
+    row: Result<R, AllocError>,
     memory: M,
-    (levels, parts): (&[(usize, Level)], &[Part]),
+    (levels, parts): (&'m [(usize, Level)], &'m [Part]),
 ) -> Result<(), AllocError> {
-    let report = &mut trial.told;
-    let written = match trial.asked {
-        Asked::Scenario(text) => {
-            let layout = trial.layout.as_mut_slice();
-            simulate(text, layout, row, memory, report).written
-        }
-        Asked::Pair(text, other, schedule) => {
-            let mut table = [CELL; 16];
-            let a = Placement { text, row, memory };
-            let b = Placement {
-                text: other,
-                row: two_cores(heap)?,
-                memory: Flat::over(&mut table),
-            };
-            compare(a, b, schedule, report).written
-        }
-    };
-    if written.is_err() {
-        return Err(AllocError);
-    }
+    let row = row?;
     let machine = Machine {
         levels,
         parts,
         cells: trial.cells_again.clone()?,
     };
-    trial.cells_again = play_again(heap, trial, machine)?;
-    Ok(())
+    let asked = trial.asked;
+    let out = &mut trial.told;
+    let again = &mut trial.again;
+    let is_written = match asked {
+        Asked::Scenario(text) => {
+            let layout = trial.layout_again.as_mut_slice();
+            trial.cells_again = reference::simulate(heap, again, machine, text, layout)?.cells;
+            let layout = trial.layout.as_mut_slice();
+            simulate(text, layout, row, memory, out).written.is_ok()
+        }
+        Asked::Pair(text, b, schedule) => {
+            trial.cells_again = pair_again(heap, again, machine, (text, b, schedule))?;
+            pair(heap, out, Placement { text, row, memory }, b, schedule)?
+        }
+    };
+    if is_written { Ok(()) } else { Err(AllocError) }
 }

@@ -39,7 +39,10 @@ fn tell_fault(out: &mut String, names: Names, fault: Fault) -> Result<(), AllocE
         15..=19 => "text",
         _ => "study",
     };
-    write!(out, "{side}fault\t{file}{layer}\t{line}\t{field}\t{number}\n")
+    write!(
+        out,
+        "{side}fault\t{file}{layer}\t{line}\t{field}\t{number}\n"
+    )
 }
 
 fn tell_quote(out: &mut String, side: &str, study: &Study) -> Result<(), AllocError> {
