@@ -1,259 +1,237 @@
-//! The machines of each kind, over the cells that are lent.
+//! The kinds of machines that are tried, each with its plain description. Some sizes are drawn.
 
-use crate::build::{Rowed, Stored, beside, core, direct, flat, interleaved, pile, window};
-use crate::job::{Job, Told};
-use crate::kinds::Kind;
-use crate::proved;
-use crate::random::Random;
-use crate::refused::{beyond, halved, nine, sixteen, wrong_table};
-use crate::rows::{
-    a_direct, a_queue, a_recent, eight_small, five_left, five_right, four_left, four_odd, some_sets,
-};
-use crate::tables::stored_32;
+use crate::trial::{Trial, run};
+use assoc::set_associative::SetAssociative;
+use direct::direct::Direct;
+use interleaved::Interleaved;
 use machine::two_cores;
-use memory::Memory;
 use memory::cell::Cell;
-use reference::machine::{Level, Part};
+use memory::flat::Flat;
+use pair::Pair;
+use parts::refusal::BuildError;
+use ranked::policy::Lru;
+use ranked::queue::Queue;
+use ranked::ranked::Ranked;
+use reference::machine::Level::{self, Direct as D, Queue as Q, Recent as R, Sets as S};
+use reference::machine::Part::{self, Flat as Table, Interleaved as Turns, Window as Stretch};
 use row::Row;
+use row::one_core::Core;
 use std::alloc::{AllocError, Global};
+use tier::Tier;
+use tier::pile::Pile;
+use window::Window;
 
-/// What the simulator told, and the description of the machine that it ran on.
-#[derive(Drop)]
-pub(crate) struct Tried {
-    pub(crate) told: Told,
-    pub(crate) cores: Vec<Vec<Level>>,
-    pub(crate) parts: Vec<Part>,
+#[derive(Clone, Copy)]
+pub(crate) enum Kind {
+    Mcsim,
+    OneLine,
+    Mixed,
+    Deep,
+    Eight,
+    Nine,
+    Nothing,
 }
 
-pub(crate) fn run<R: Row + Drop, M: Memory + Drop>(
-    rowed: Rowed<R>,
-    stored: Stored<M>,
-    heap: Global,
-    layout: &mut [u32],
-    job: Job,
-) -> Result<Tried, AllocError> {
-    let Rowed { row, cores } = rowed;
-    let Stored { memory, parts } = stored;
-    let told = proved::play(heap, row, memory, layout, job)?;
-    Ok(Tried { told, cores, parts })
+/// Each kind, what it is called, and how many cores it has.
+pub(crate) const KINDS: [(Kind, &str, usize); 7] = [
+    (Kind::Mcsim, "mcsim's machine", 2),
+    (Kind::OneLine, "one core of one line over a window", 1),
+    (Kind::Mixed, "three mixed cores over a window of two", 3),
+    (Kind::Deep, "two cores of five levels, nested both ways", 2),
+    (Kind::Eight, "eight cores over two windows in turn", 8),
+    (Kind::Nine, "nine cores", 9),
+    (Kind::Nothing, "a window beyond the end", 2),
+];
+
+/// The levels of the two cores of mcsim's machine.
+pub(crate) const MCSIM: [(usize, Level); 4] = [(0, D(2)), (0, S(2, 2)), (1, D(2)), (1, S(2, 2))];
+
+// What is made may lack memory. To pass that on in generic functions is proved once for all machines.
+type Made<T> = Result<T, AllocError>;
+
+fn direct(heap: Global, lines: usize) -> Made<Direct> {
+    Direct::new(heap, lines).or_else(BuildError::into_tier)
 }
 
-// Cuts a table in two, each of at least one cell where there are two.
-pub(crate) fn cut<'a>(
-    random: &mut Random,
-    cells: &'a mut [Cell],
-) -> (&'a mut [Cell], &'a mut [Cell]) {
-    let most = cells.len();
-    let at = random.among(1, most.saturating_sub(1)).min(most);
-    cells.split_at_mut(at)
+fn queue(heap: Global, lines: usize) -> Made<Queue> {
+    Queue::new(heap, lines).or_else(BuildError::into_tier)
 }
 
-pub(crate) fn halves<'a>(cells: &'a mut [Cell]) -> (&'a mut [Cell], &'a mut [Cell]) {
-    let at = cells.len() / 2;
-    cells.split_at_mut(at)
+fn recent(heap: Global, lines: usize) -> Made<Ranked<Lru>> {
+    Ranked::with_policy(heap, Lru, lines).or_else(BuildError::into_tier)
 }
 
-fn mcsim(
-    heap: Global,
-    cells: &mut [Cell],
-    layout: &mut [u32],
-    job: Job,
-) -> Result<Tried, AllocError> {
-    let mut described = Vec::new(heap);
-    for _ in 0..2 {
-        described.push(vec![in heap; Level::Direct(2), Level::Sets(2, 2)]?)?;
-    }
-    let rowed = Rowed {
-        row: two_cores(heap)?,
-        cores: described,
-    };
-    run(rowed, flat(heap, cells)?, heap, layout, job)
+fn sets(heap: Global, count: usize, ways: usize) -> Made<SetAssociative> {
+    SetAssociative::new(heap, count, ways).or_else(BuildError::into_tier)
 }
 
-fn one_line(
-    heap: Global,
-    cells: &mut [Cell],
-    layout: &mut [u32],
-    job: Job,
-) -> Result<Tried, AllocError> {
-    run(
-        core(heap, direct(heap, 1)?)?,
-        flat(heap, cells)?,
-        heap,
-        layout,
-        job,
-    )
+fn on<U: Tier + Drop, L: Tier + Drop>(upper: Made<U>, lower: Made<L>) -> Made<Pile<U, L>> {
+    Ok(Pile::new(upper?, lower?))
 }
 
-fn one(
-    heap: Global,
-    random: &mut Random,
-    cells: &mut [Cell],
-    layout: &mut [u32],
-    job: Job,
-) -> Result<Tried, AllocError> {
-    let start = random.word(0, 2);
-    let length = random.word(1, 50);
-    let rowed = core(heap, a_direct(heap, random)?)?;
-    run(
-        rowed,
-        window(flat(heap, cells)?, start, length)?,
-        heap,
-        layout,
-        job,
-    )
+fn core<T: Tier + Drop>(tier: Made<T>) -> Made<Core<T>> {
+    Ok(Core::new(tier?))
 }
 
-fn two(
-    heap: Global,
-    random: &mut Random,
-    cells: &mut [Cell],
-    layout: &mut [u32],
-    job: Job,
-) -> Result<Tried, AllocError> {
-    let first = core(heap, a_queue(heap, random)?)?;
-    let second = core(heap, some_sets(heap, random)?)?;
-    let (even, odd) = cut(random, cells);
-    let stored = interleaved(flat(heap, even)?, flat(heap, odd)?)?;
-    run(beside(first, second)?, stored, heap, layout, job)
+fn beside<R: Row + Drop, S: Row + Drop>(first: Made<R>, second: Made<S>) -> Made<Pair<R, S>> {
+    Ok(Pair::new(first?, second?))
+}
+
+type Two = Pair<Core<Queue>, Core<Queue>>;
+
+type Four = Pair<Two, Two>;
+
+fn two(heap: Global, lines: usize) -> Made<Two> {
+    beside(core(queue(heap, lines)), core(queue(heap, lines)))
+}
+
+fn four(heap: Global, lines: usize) -> Made<Four> {
+    beside(two(heap, lines), two(heap, lines))
+}
+
+fn eight(heap: Global, lines: usize) -> Made<Pair<Four, Four>> {
+    beside(four(heap, lines), four(heap, lines))
 }
 
 fn mixed(
     heap: Global,
-    random: &mut Random,
+    trial: &mut Trial,
     cells: &mut [Cell],
-    layout: &mut [u32],
-    job: Job,
-) -> Result<Tried, AllocError> {
-    let start = random.word(0, 2);
-    let first = core(heap, a_direct(heap, random)?)?;
-    let last = beside(
-        core(heap, a_recent(heap, random)?)?,
-        core(heap, a_queue(heap, random)?)?,
-    )?;
-    let (even, odd) = halves(cells);
-    let below = interleaved(flat(heap, even)?, flat(heap, odd)?)?;
-    run(
-        beside(first, last)?,
-        window(below, start, u32::MAX)?,
-        heap,
-        layout,
-        job,
-    )
+    (size, other): (usize, usize),
+) -> Result<(), AllocError> {
+    let rest = beside(core(recent(heap, other)), core(queue(heap, size)));
+    let row = beside(core(direct(heap, size)), rest);
+    let (even, odd) = cells.split_at_mut(7.min(cells.len()));
+    let parts = [
+        Table(even.len()),
+        Table(odd.len()),
+        Turns(0, 1),
+        Stretch(2, 4_294_967_295, 2),
+    ];
+    let whole = Interleaved::new(Flat::over(even), Flat::over(odd));
+    let memory = Window::new(whole, 2, u32::MAX);
+    let levels = [(0, D(size)), (1, R(other)), (2, Q(size))];
+    run(heap, trial, row, memory, (&levels, &parts))
 }
 
-fn piles(
-    heap: Global,
-    random: &mut Random,
-    cells: &mut [Cell],
-    layout: &mut [u32],
-    job: Job,
-) -> Result<Tried, AllocError> {
-    let first = core(heap, pile(a_queue(heap, random)?, a_direct(heap, random)?)?)?;
-    let second = core(
-        heap,
-        pile(some_sets(heap, random)?, a_queue(heap, random)?)?,
-    )?;
-    let third = core(
-        heap,
-        pile(a_recent(heap, random)?, some_sets(heap, random)?)?,
-    )?;
-    let (even, odd) = cut(random, cells);
-    let even = window(flat(heap, even)?, 0, random.word(1, 20))?;
-    let odd = window(flat(heap, odd)?, 0, random.word(1, 20))?;
-    run(
-        beside(beside(first, second)?, third)?,
-        interleaved(even, odd)?,
-        heap,
-        layout,
-        job,
-    )
+type Right = Pile<Direct, Pile<Queue, Pile<SetAssociative, Pile<Direct, Queue>>>>;
+
+type Left = Pile<Pile<Pile<Pile<SetAssociative, Direct>, Queue>, Direct>, Queue>;
+
+fn right(heap: Global, size: usize) -> Made<Right> {
+    let last = on(sets(heap, 1, 2), on(direct(heap, 2), queue(heap, 1)));
+    on(direct(heap, 1), on(queue(heap, size), last))
 }
 
-fn nested(
-    heap: Global,
-    random: &mut Random,
-    cells: &mut [Cell],
-    layout: &mut [u32],
-    job: Job,
-) -> Result<Tried, AllocError> {
-    let rowed = beside(four_odd(heap, random)?, four_left(heap, random)?)?;
-    let (even, odd) = halves(cells);
-    let odd = window(window(flat(heap, odd)?, 1, u32::MAX)?, 0, 9)?;
-    let below = interleaved(flat(heap, even)?, odd)?;
-    run(rowed, window(below, 0, u32::MAX)?, heap, layout, job)
+fn left(heap: Global, size: usize) -> Made<Left> {
+    let first = on(on(sets(heap, 2, size), direct(heap, 1)), queue(heap, 1));
+    on(on(first, direct(heap, 1)), queue(heap, 2))
 }
 
 fn deep(
     heap: Global,
-    random: &mut Random,
+    trial: &mut Trial,
     cells: &mut [Cell],
-    layout: &mut [u32],
-    job: Job,
-) -> Result<Tried, AllocError> {
-    let rowed = beside(five_right(heap, random)?, five_left(heap, random)?)?;
-    run(rowed, flat(heap, cells)?, heap, layout, job)
+    size: usize,
+) -> Result<(), AllocError> {
+    let row = beside(core(right(heap, size)), core(left(heap, size)));
+    let levels = [
+        (0, D(1)),
+        (0, Q(size)),
+        (0, S(1, 2)),
+        (0, D(2)),
+        (0, Q(1)),
+        (1, S(2, size)),
+        (1, D(1)),
+        (1, Q(1)),
+        (1, D(1)),
+        (1, Q(2)),
+    ];
+    let parts = [Table(cells.len())];
+    run(heap, trial, row, Flat::over(cells), (&levels, &parts))
 }
 
-fn eight(
+fn windows(
     heap: Global,
-    random: &mut Random,
+    trial: &mut Trial,
     cells: &mut [Cell],
-    layout: &mut [u32],
-    job: Job,
-) -> Result<Tried, AllocError> {
-    let rowed = eight_small(heap, random)?;
-    let (first, rest) = halves(cells);
-    let (second, third) = halves(rest);
-    let odd = interleaved(flat(heap, second)?, flat(heap, third)?)?;
-    run(
-        rowed,
-        interleaved(flat(heap, first)?, odd)?,
-        heap,
-        layout,
-        job,
-    )
+    size: usize,
+) -> Result<(), AllocError> {
+    let (even, odd) = cells.split_at_mut(9.min(cells.len()));
+    let parts = [
+        Table(even.len()),
+        Stretch(1, 6, 0),
+        Table(odd.len()),
+        Stretch(0, 5, 2),
+        Turns(1, 3),
+    ];
+    let first = Window::new(Flat::over(even), 1, 6);
+    let memory = Interleaved::new(first, Window::new(Flat::over(odd), 0, 5));
+    let lines = Q(size);
+    let levels = [
+        (0, lines),
+        (1, lines),
+        (2, lines),
+        (3, lines),
+        (4, lines),
+        (5, lines),
+        (6, lines),
+        (7, lines),
+    ];
+    run(heap, trial, eight(heap, size), memory, (&levels, &parts))
 }
 
-// Of 131,072 blocks half are out of reach.
-fn largest(
-    heap: Global,
-    random: &mut Random,
-    cells: &mut [Cell],
-    layout: &mut [u32],
-    job: Job,
-) -> Result<Tried, AllocError> {
-    let rowed = beside(
-        core(heap, direct(heap, 64)?)?,
-        core(heap, some_sets(heap, random)?)?,
-    )?;
-    run(rowed, stored_32(heap, cells)?, heap, layout, job)
-}
-
-/// Tries a job on a machine of a kind.
+/// Tries a machine of a kind.
 pub(crate) fn try_on(
-    kind: Kind,
     heap: Global,
-    random: &mut Random,
+    kind: Kind,
+    trial: &mut Trial,
     cells: &mut [Cell],
-    layout: &mut [u32],
-    job: Job,
-) -> Result<Tried, AllocError> {
+    (size, other): (usize, usize),
+) -> Result<(), AllocError> {
+    let table = Table(cells.len());
     match kind {
-        Kind::Mcsim => mcsim(heap, cells, layout, job),
-        Kind::OneLine => one_line(heap, cells, layout, job),
-        Kind::One => one(heap, random, cells, layout, job),
-        Kind::Two => two(heap, random, cells, layout, job),
-        Kind::Mixed => mixed(heap, random, cells, layout, job),
-        Kind::Piles => piles(heap, random, cells, layout, job),
-        Kind::Nested => nested(heap, random, cells, layout, job),
-        Kind::Deep => deep(heap, random, cells, layout, job),
-        Kind::Eight => eight(heap, random, cells, layout, job),
-        Kind::Nine => nine(heap, random, cells, layout, job),
-        Kind::Sixteen => sixteen(heap, random, cells, layout, job),
-        Kind::Beyond => beyond(heap, random, cells, layout, job),
-        Kind::NoTable | Kind::LongTable => wrong_table(heap, random, cells, layout, job),
-        Kind::Halved => halved(heap, random, cells, layout, job),
-        Kind::Largest => largest(heap, random, cells, layout, job),
+        Kind::Mcsim => run(
+            heap,
+            trial,
+            two_cores(heap),
+            Flat::over(cells),
+            (&MCSIM, &[table]),
+        ),
+        Kind::OneLine => {
+            let memory = Window::new(Flat::over(cells), 3, 9);
+            let parts = [table, Stretch(3, 9, 0)];
+            run(
+                heap,
+                trial,
+                core(direct(heap, 1)),
+                memory,
+                (&[(0, D(1))], &parts),
+            )
+        }
+        Kind::Mixed => mixed(heap, trial, cells, (size, other)),
+        Kind::Deep => deep(heap, trial, cells, size),
+        Kind::Eight => windows(heap, trial, cells, size),
+        Kind::Nine => {
+            // a study of nine cores is refused, so the levels of the first eight are not told
+            let row = beside(eight(heap, 1), core(direct(heap, size)));
+            run(
+                heap,
+                trial,
+                row,
+                Flat::over(cells),
+                (&[(8, D(size))], &[table]),
+            )
+        }
+        Kind::Nothing => {
+            let memory = Window::new(Flat::over(cells), 99, u32::MAX);
+            run(
+                heap,
+                trial,
+                two_cores(heap),
+                memory,
+                (&MCSIM, &[table, Stretch(99, 9, 0)]),
+            )
+        }
     }
 }

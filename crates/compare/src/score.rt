@@ -1,8 +1,11 @@
 //! The score: how many cases of a family agree, and the first that does not, in full.
 
-use crate::job::{Job, Told};
-use crate::judge::{Case, Outcome, judge};
-use reference::calls::{Turn, Word};
+use crate::machines::{Kind, try_on};
+use crate::random::Random;
+use crate::trial::{Asked, Trial};
+use memory::cell::{Cell, State};
+use reference::machine::Cell as Again;
+use std::alloc::{AllocError, Global};
 use std::io;
 
 /// What was counted, over all families and in the one that is under way.
@@ -11,85 +14,110 @@ pub(crate) struct Score {
     pub(crate) differing: usize,
     cases: usize,
     agreed: usize,
-    words: [u64; 7],
 }
 
-fn place_of(word: Word) -> usize {
-    match word {
-        Word::Waits => 0,
-        Word::Brought => 1,
-        Word::Read => 2,
-        Word::Wrote => 3,
-        Word::Flushed => 4,
-        Word::Committed => 5,
-        Word::Refused => 6,
-    }
+/// A kind of machine with so many cells, a layout table of so many entries, and a seed.
+#[derive(Clone, Copy)]
+pub(crate) struct Setting {
+    pub(crate) kind: Kind,
+    pub(crate) cells: usize,
+    pub(crate) entries: usize,
+    pub(crate) seed: u64,
 }
 
-fn show_text(rt: &HostRuntime, title: &str, bytes: &[u8]) -> io::Result<()> {
-    let heap = rt.alloc();
-    let text = String::from_utf8_lossy(heap, bytes)?;
-    println!(rt; "-- {title}, {} bytes:", bytes.len())?;
-    println!(rt; "{text}")
-}
-
-// The first turns that differ.
-fn show_turns(rt: &HostRuntime, told: &[Turn], again: &[Turn]) -> io::Result<()> {
-    println!(rt; "-- turns: {} and {}", told.len(), again.len())?;
-    for (place, (turn, other)) in told.iter().zip(again).enumerate() {
-        if turn != other {
-            println!(rt; "turn {place}: {turn:?} and {other:?}")?;
-            break;
-        }
-    }
-    Ok(())
-}
-
-fn show_told(rt: &HostRuntime, title: &str, told: &Told) -> io::Result<()> {
-    show_text(rt, title, told.text.as_slice())
-}
-
-fn show_job(rt: &HostRuntime, job: Job) -> io::Result<()> {
-    match job {
-        Job::Scenario(text) => show_text(rt, "scenario", text),
-        Job::Side(name, placement, schedule) => {
-            show_text(rt, name, placement)?;
-            show_text(rt, "schedule", schedule)
-        }
-        Job::Calls(weights, calls) => {
-            println!(rt; "-- weights {weights:?}, {} calls:", calls.len())?;
-            for call in calls.iter().take(2_000) {
-                println!(rt; "{call:?}")?;
-            }
-            Ok(())
+impl Setting {
+    pub(crate) fn new(kind: Kind, seed: u64) -> Setting {
+        Setting {
+            kind,
+            cells: 16,
+            entries: 256,
+            seed,
         }
     }
 }
 
-fn show(rt: &HostRuntime, number: usize, case: Case, outcome: &Outcome) -> io::Result<()> {
-    let kind = case.kind.name();
-    let Case {
-        seed,
-        entries,
-        job,
-        ..
-    } = case;
-    println!(rt; "== case {number} differs: on {kind}, seed {seed}, layout of {entries}")?;
-    show_job(rt, job)?;
-    show_told(rt, "the simulator", &outcome.told)?;
-    show_told(rt, "the reference", &outcome.again)?;
-    show_turns(
-        rt,
-        outcome.told.turns.as_slice(),
-        outcome.again.turns.as_slice(),
-    )?;
-    let layouts = outcome.layouts.0 == outcome.layouts.1;
-    println!(rt; "-- layout tables agree: {layouts}")?;
-    if outcome.cells.0 != outcome.cells.1 {
-        println!(rt; "-- cells of the simulator: {:?}", outcome.cells.0)?;
-        println!(rt; "-- cells of the reference: {:?}", outcome.cells.1)?;
+// Where the cells differ first.
+fn difference(cells: &[Cell], again: &[Again]) -> Option<usize> {
+    for (place, (cell, other)) in cells.iter().zip(again).enumerate() {
+        let is_valid = cell.state == State::Valid;
+        if is_valid != other.valid || u64::from(cell.stamp) != other.stamp {
+            return Some(place);
+        }
     }
-    Ok(())
+    None
+}
+
+// What a trial left that differs, if anything does.
+fn verdict(trial: &Trial, cells: &[Cell]) -> &'static str {
+    if trial.told.as_slice() != trial.again.as_bytes() {
+        "reports"
+    } else if trial.layout != trial.layout_again {
+        "layout tables"
+    } else if difference(cells, trial.cells_again.as_slice()).is_some() {
+        "cells"
+    } else {
+        ""
+    }
+}
+
+// Does what is asked both ways, and tells what differs.
+fn tried<'a>(
+    heap: Global,
+    setting: Setting,
+    asked: Asked<'a>,
+) -> Result<(Trial<'a>, &'static str), AllocError> {
+    let mut random = Random::new(setting.seed);
+    let mut cells = Vec::new(heap);
+    let mut trial = Trial {
+        asked,
+        told: Vec::new(heap),
+        again: String::new(heap),
+        layout: Vec::new(heap),
+        layout_again: Vec::new(heap),
+        cells_again: Vec::new(heap),
+    };
+    for _ in 0..setting.cells {
+        let stamp = random.word(0, 4_294_967_295);
+        let valid = stamp % 2 == 0;
+        let state = if valid { State::Valid } else { State::Stale };
+        cells.push(Cell { state, stamp })?;
+        trial.cells_again.push(Again {
+            valid,
+            stamp: u64::from(stamp),
+        })?;
+    }
+    for _ in 0..setting.entries {
+        let entry = random.word(0, 70_000);
+        trial.layout.push(entry)?;
+        trial.layout_again.push(entry)?;
+    }
+    let most = if random.once_in(10) { 18 } else { 4 };
+    let sizes = (random.among(1, most), random.among(1, most));
+    try_on(heap, setting.kind, &mut trial, cells.as_mut_slice(), sizes)?;
+    let differing = verdict(&trial, cells.as_slice());
+    Ok((trial, differing))
+}
+
+fn show(rt: &HostRuntime, title: &str, text: &[u8]) -> io::Result<()> {
+    println!(rt;
+        "-- {title}, {} bytes:\n{}",
+        text.len(),
+        String::from_utf8_lossy(rt.alloc(), text)?
+    )
+}
+
+// Shows a case in full.
+fn show_all(rt: &HostRuntime, trial: &Trial) -> io::Result<()> {
+    match trial.asked {
+        Asked::Scenario(text) => show(rt, "scenario", text)?,
+        Asked::Pair(a, b, schedule) => {
+            show(rt, "placement a", a)?;
+            show(rt, "placement b", b)?;
+            show(rt, "schedule", schedule)?;
+        }
+    }
+    show(rt, "the simulator", trial.told.as_slice())?;
+    show(rt, "the reference", trial.again.as_bytes())
 }
 
 impl Score {
@@ -98,15 +126,6 @@ impl Score {
             differing: 0,
             cases: 0,
             agreed: 0,
-            words: [0; 7],
-        }
-    }
-
-    fn count_words(&mut self, turns: &[Turn]) {
-        for turn in turns {
-            if let Some(count) = self.words.get_mut(place_of(turn.word)) {
-                *count = count.wrapping_add(1);
-            }
         }
     }
 
@@ -120,32 +139,30 @@ impl Score {
         }
     }
 
-    /// Judges a case and counts it; shows it if it is the first of all that differs.
-    pub(crate) fn judge(&mut self, rt: &HostRuntime, case: Case) -> io::Result<Outcome> {
-        let outcome = judge(rt.alloc(), case)?;
-        let agrees = outcome.agrees();
-        if !agrees && self.differing == 0 {
-            show(rt, self.cases.wrapping_add(1), case, &outcome)?;
+    /// Tries and counts a case; shows it if it is the first of all that differs.
+    pub(crate) fn judge(
+        &mut self,
+        rt: &HostRuntime,
+        setting: Setting,
+        asked: Asked,
+    ) -> io::Result<()> {
+        let (trial, differing) = tried(rt.alloc(), setting, asked)?;
+        if !differing.is_empty() && self.differing == 0 {
+            let number = self.cases.wrapping_add(1);
+            let seed = setting.seed;
+            println!(rt; "== case {number} of the next family differs, seed {seed}: {differing}")?;
+            show_all(rt, &trial)?;
         }
-        self.count_words(outcome.told.turns.as_slice());
-        self.note(agrees);
-        Ok(outcome)
-    }
-
-    /// Tells how a family came out, and begins the next.
-    pub(crate) fn close(&mut self, rt: &HostRuntime, family: &str) -> io::Result<()> {
-        let Score { cases, agreed, .. } = *self;
-        println!(rt; "{family}\t{agreed} of {cases}")?;
-        self.cases = 0;
-        self.agreed = 0;
+        self.note(differing.is_empty());
         Ok(())
     }
 
-    /// Tells how many answers of each word the lists of calls had.
-    pub(crate) fn tell_words(&self, rt: &HostRuntime) -> io::Result<()> {
-        let [waits, brought, read, wrote, flushed, committed, refused] = self.words;
-        println!(rt;
-            "answers to lists of calls\twaits {waits}, brought {brought}, read {read}, wrote {wrote}, flushed {flushed}, committed {committed}, refused {refused}"
-        )
+    /// Tells how a family came out, and begins the next.
+    pub(crate) fn close(&mut self, rt: &HostRuntime, family: &str, name: &str) -> io::Result<()> {
+        let agreed = self.agreed;
+        let cases = self.cases;
+        self.cases = 0;
+        self.agreed = 0;
+        println!(rt; "{family}{name}\t{agreed} of {cases}")
     }
 }

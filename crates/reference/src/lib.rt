@@ -4,120 +4,199 @@
 //! that it is safe and ends, and what the program `compare` shows.
 #![tactic(auto)]
 
-ghost use Rattle.std.specs.Prelude.{◌≡◌, ◌-◌, IfOk, Some, vec_len, length, slice_get};
-
-mod caches;
-pub mod calls;
 pub mod machine;
-mod playing;
 mod reading;
-mod store;
-pub mod telling;
+pub mod study;
 
-use crate::calls::{Call, Turn};
 use crate::machine::{Cell, Machine};
-use crate::playing::Study;
-use crate::telling::{Report, Source, tell};
+use crate::reading::{Fault, Form, REFERENCES, UNPLACED, fields_of, kind_of, read};
+use crate::study::{Call, Study};
 use std::alloc::{AllocError, Global};
 
-/// Plays a scenario, and leaves its placements in the layout table.
+/// What the cells of the memory hold after a study, and its figure, if there is one.
+#[derive(Drop)]
+pub struct Told {
+    pub cells: Vec<Cell>,
+    pub figure: Option<u64>,
+}
+
+// Whose study is told: nobody's, or a side's with a tab. And in which file a fault is: in none, or in one with a tab.
+#[derive(Clone, Copy)]
+struct Names<'a> {
+    side: &'a str,
+    file: &'a str,
+}
+
+fn tell_fault(out: &mut String, names: Names, fault: Fault) -> Result<(), AllocError> {
+    let Names { side, file } = names;
+    let Fault {
+        line,
+        field,
+        number,
+    } = fault;
+    let layer = match number {
+        14 | 20 | 21 => "layout",
+        15..=19 => "text",
+        _ => "study",
+    };
+    write!(
+        out,
+        "{side}fault\t{file}{layer}\t{line}\t{field}\t{number}\n"
+    )
+}
+
+fn tell_quote(out: &mut String, side: &str, study: &Study) -> Result<(), AllocError> {
+    let accesses = study.accesses;
+    let total = study.total;
+    write!(out, "{side}quote\t{accesses}\t{total}\t")?;
+    match study.figure() {
+        Some(figure) => write!(out, "{figure}\n"),
+        None => out.push_str("-\n"),
+    }
+}
+
+// Plays the steps of a text. Of a side only refused ones are told.
+fn play(
+    out: &mut String,
+    side: &str,
+    study: &mut Study,
+    layout: &[u32],
+    text: &[u8],
+) -> Result<(), AllocError> {
+    let mut number = 0usize;
+    for line in text.split(|byte| *byte == b'\n') {
+        let fields = fields_of(line);
+        let Some(kind) = kind_of(fields.word) else {
+            continue;
+        };
+        let [core, reference, ..] = fields.numbers;
+        let turn = study.step(Call {
+            kind,
+            core: core as usize,
+            block: layout.get(reference as usize).copied().unwrap_or(0) as usize,
+        });
+        number = number.wrapping_add(1);
+        let word = turn.word;
+        let value = turn.value;
+        let total = turn.total;
+        if side.is_empty() {
+            write!(out, "{number}\t{word}\t{value}\t{total}\n")?;
+        } else if turn.refused {
+            write!(out, "{side}refused\t{number}\t{value}\n")?;
+        }
+    }
+    tell_quote(out, side, study)
+}
+
+// The study of a text, which was read into a layout if it has no fault.
+fn tell(
+    heap: Global,
+    out: &mut String,
+    names: Names,
+    machine: Machine,
+    layout: &mut [u32],
+    text: &[u8],
+    fault: Option<Fault>,
+) -> Result<Told, AllocError> {
+    let mut study = Study::new(heap, machine)?;
+    let mut fault = fault;
+    if fault.is_none() {
+        // the first line is read on its own for its weights
+        let weights = match text.split(|byte| *byte == b'\n').next() {
+            Some(line) => fields_of(line).numbers,
+            None => [0; 5],
+        };
+        let number = study.open(weights);
+        if number > 0 {
+            fault = Some(Fault {
+                line: 1,
+                field: 0,
+                number,
+            });
+        }
+    }
+    match fault {
+        None => play(out, names.side, &mut study, layout, text)?,
+        Some(fault) => {
+            if fault.number != 14 {
+                layout.fill(UNPLACED);
+            }
+            tell_fault(out, names, fault)?;
+        }
+    }
+    let figure = study.figure();
+    Ok(Told {
+        cells: study.into_cells(),
+        figure,
+    })
+}
+
+/// Plays a scenario, leaves its placements in the layout table, and tells the report.
 pub fn simulate(
     heap: Global,
+    out: &mut String,
     machine: Machine,
     text: &[u8],
     layout: &mut [u32],
-) -> Result<Report, AllocError>
-    ensures ends_in_line_feed { IfOk result (λ r. slice_get r.text.items (vec_len r.text - 1) ≡ Some 10) }
-{
-    let mut report = tell(heap, machine, Source::Scenario(text), layout)?;
-    report.text.push(b'\n')?;
-    Ok(report)
+) -> Result<Told, AllocError> {
+    let fault = if layout.len() == REFERENCES {
+        layout.fill(UNPLACED);
+        let form = Form {
+            references: true,
+            steps: true,
+        };
+        read(layout, form, text)
+    } else {
+        Some(Fault {
+            line: 0,
+            field: 0,
+            number: 14,
+        })
+    };
+    let names = Names { side: "", file: "" };
+    tell(heap, out, names, machine, layout, text, fault)
 }
 
-/// The single study of a placement under a schedule, as the side of a paired study with this name.
+/// The single study of a placement under a schedule, as a side of a paired study: its name is given with a tab.
 pub fn side(
     heap: Global,
+    out: &mut String,
     machine: Machine,
-    name: &str,
+    side: &str,
     placement: &[u8],
     schedule: &[u8],
-    layout: &mut [u32],
-) -> Result<Report, AllocError>
-    ensures ends_in_line_feed { IfOk result (λ r. slice_get r.text.items (vec_len r.text - 1) ≡ Some 10) }
-{
-    let mut report = tell(
-        heap,
-        machine,
-        Source::Side(name, placement, schedule),
-        layout,
-    )?;
-    report.text.push(b'\n')?;
-    Ok(report)
+) -> Result<Told, AllocError> {
+    let mut layout = [UNPLACED; REFERENCES];
+    let mut file = "placement\t";
+    let places = Form {
+        references: true,
+        steps: false,
+    };
+    let mut fault = read(&mut layout, places, placement);
+    if fault.is_none() {
+        file = "schedule\t";
+        let steps = Form {
+            references: false,
+            steps: true,
+        };
+        fault = read(&mut layout, steps, schedule);
+    }
+    let names = Names { side, file };
+    tell(heap, out, names, machine, &mut layout, schedule, fault)
 }
 
 /// The last line of a paired study, from the figures of its sides.
-pub fn difference(heap: Global, a: Option<u64>, b: Option<u64>) -> Result<Vec<u8>, AllocError>
-    ensures ends_in_line_feed { IfOk result (λ t. slice_get t.items (vec_len t - 1) ≡ Some 10) }
-{
-    let mut line = match (a, b) {
-        (Some(a), Some(b)) => {
-            let apart = a.abs_diff(b);
-            let cheaper = if a < b {
-                "a"
-            } else if b < a {
-                "b"
-            } else {
-                "equal"
-            };
-            format!(in heap; "difference\t{apart}\t{cheaper}")?.into_bytes()
-        }
-        _ => Vec::from_slice(heap, b"difference\t-\t-")?,
+pub fn difference(out: &mut String, a: Option<u64>, b: Option<u64>) -> Result<(), AllocError> {
+    let (Some(a), Some(b)) = (a, b) else {
+        return out.push_str("difference\t-\t-\n");
     };
-    line.push(b'\n')?;
-    Ok(line)
-}
-
-/// What became of a list of calls: the number of the refusal where the study was not opened, or else 0 and a turn for each.
-#[derive(Drop)]
-pub struct Played {
-    pub refusal: u64,
-    pub turns: Vec<Turn>,
-    pub accesses: u64,
-    pub figure: Option<u64>,
-    pub cells: Vec<Cell>,
-}
-
-fn turns_of(heap: Global, study: &mut Study, calls: &[Call]) -> Result<Vec<Turn>, AllocError>
-    ensures { IfOk result (λ turns. vec_len turns ≡ length calls.now) }
-{
-    let mut turns = Vec::new(heap);
-    for call in calls {
-        turns.push(study.step(*call)?)?;
-    }
-    Ok(turns)
-}
-
-/// Opens a study and plays a list of calls.
-pub fn play(
-    heap: Global,
-    machine: Machine,
-    weights: [u64; 5],
-    calls: &[Call],
-) -> Result<Played, AllocError>
-    ensures a_turn_for_each { IfOk result (λ p. p.refusal ≡ 0 → vec_len p.turns ≡ length calls.now) }
-{
-    let mut study = Study::new(heap, machine, weights)?;
-    let refusal = study.open();
-    let turns = if refusal == 0 {
-        turns_of(heap, &mut study, calls)?
+    let apart = a.abs_diff(b);
+    let cheaper = if a < b {
+        "a"
+    } else if b < a {
+        "b"
     } else {
-        Vec::new(heap)
+        "equal"
     };
-    Ok(Played {
-        refusal,
-        turns,
-        accesses: study.accesses,
-        figure: study.figure(),
-        cells: study.into_cells(),
-    })
+    write!(out, "difference\t{apart}\t{cheaper}\n")
 }

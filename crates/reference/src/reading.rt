@@ -1,7 +1,6 @@
 //! Reading: texts of tabbed fields, checked line by line.
 
-use crate::calls::{Call, Kind};
-use std::alloc::{AllocError, AllocFailed, Global};
+use crate::study::Kind;
 
 /// What a layout table says of a reference that is not placed.
 pub(crate) const UNPLACED: u32 = 65_536;
@@ -12,226 +11,156 @@ const MOST_BYTES: usize = 65_536;
 
 const MOST_LINE: usize = 80;
 
-/// Which lines a text may have.
-#[derive(Clone, Copy, PartialEq, Eq)]
-pub(crate) enum Form {
-    Scenario,
-    Placement,
-    Schedule,
+const MOST_NUMBER: u32 = 65_535;
+
+/// Whether a text may have references, and whether it has weights and may have steps.
+#[derive(Clone, Copy)]
+pub(crate) struct Form {
+    pub(crate) references: bool,
+    pub(crate) steps: bool,
 }
 
-/// Which text fails, where, and by which number.
+/// Where a text fails, and by which number.
 #[derive(Clone, Copy)]
 pub(crate) struct Fault {
-    pub(crate) form: Form,
     pub(crate) line: usize,
     pub(crate) field: usize,
     pub(crate) number: u64,
 }
 
-/// What ends the reading of a text before its end.
-#[derive(Drop)]
-pub(crate) enum Stop {
-    Fault(Fault),
-    NoMemory,
-}
-
-impl Stop {
-    pub(crate) fn at(form: Form, line: usize, field: usize, number: u64) -> Stop {
-        Stop::Fault(Fault {
-            form,
-            line,
-            field,
-            number,
-        })
-    }
-}
-
-impl From<AllocError> for Stop {
-    fn from(_error: AllocError) -> Stop {
-        Stop::NoMemory
-    }
-}
-
-impl<T: Drop> From<AllocFailed<T>> for Stop {
-    fn from(_error: AllocFailed<T>) -> Stop {
-        Stop::NoMemory
-    }
-}
-
+/// The first field of a line, how many tabs it has, its first five numbers, and the field of the first that is none, or 0.
 #[derive(Clone, Copy)]
-enum First {
-    Weights,
-    Ref,
-    Step(Kind),
+pub(crate) struct Fields<'a> {
+    pub(crate) word: &'a [u8],
+    tabs: usize,
+    pub(crate) numbers: [u32; 5],
+    wrong: usize,
 }
 
-impl First {
-    fn of(field: &[u8]) -> Option<First> {
-        let kind = match field {
-            b"weights" => return Some(First::Weights),
-            b"ref" => return Some(First::Ref),
-            b"read" => Kind::Read,
-            b"write" => Kind::Write,
-            b"fetch" => Kind::Fetch,
-            b"resume" => Kind::Resume,
-            b"flush" => Kind::Flush,
-            b"commit" => Kind::Commit,
-            _ => return None,
-        };
-        Some(First::Step(kind))
-    }
-
-    // How many tabs its line has, and so how many numbers.
-    fn tabs(self) -> usize {
-        match self {
-            First::Weights => 5,
-            First::Step(kind) if !kind.names_block() => 1,
-            _ => 2,
-        }
+pub(crate) fn kind_of(word: &[u8]) -> Option<Kind> {
+    match word {
+        b"read" => Some(Kind::Read),
+        b"write" => Some(Kind::Write),
+        b"fetch" => Some(Kind::Fetch),
+        b"resume" => Some(Kind::Resume),
+        b"flush" => Some(Kind::Flush),
+        b"commit" => Some(Kind::Commit),
+        _ => None,
     }
 }
 
 // A number, if the field is one: 0 to 65,535 in decimal digits, without a leading zero.
-fn number_in(field: &[u8]) -> Option<usize> {
-    let mut number = 0usize;
+fn number_in(field: &[u8]) -> Option<u32> {
+    let mut number = 0u32;
     for digit in field {
         if !digit.is_ascii_digit() {
             return None;
         }
         number = number
             .wrapping_mul(10)
-            .wrapping_add(usize::from(digit.wrapping_sub(b'0')));
+            .wrapping_add(u32::from(digit.wrapping_sub(b'0')));
     }
     match field {
         [] | [b'0', _, ..] => None,
-        _ if field.len() > 5 || number > 65_535 => None,
+        _ if field.len() > 5 || number > MOST_NUMBER => None,
         _ => Some(number),
     }
 }
 
-// The numbers of a line, or the field of the first that is none.
-fn numbers_in(line: &[u8]) -> Result<[usize; 5], usize> {
-    let mut numbers = [0usize; 5];
+pub(crate) fn fields_of<'a>(line: &'a [u8]) -> Fields<'a> {
+    let mut fields = Fields {
+        word: line,
+        tabs: 0,
+        numbers: [0; 5],
+        wrong: 0,
+    };
     for (place, field) in line.split(|byte| *byte == b'\t').enumerate() {
-        if place > 0 {
-            let Some(number) = number_in(field) else {
-                return Err(place.wrapping_add(1));
-            };
-            if place <= 5 {
-                numbers[place - 1] = number;
+        if place == 0 {
+            fields.word = field;
+        } else if let Some(number) = number_in(field) {
+            if let Some(entry) = fields.numbers.get_mut(place.wrapping_sub(1)) {
+                *entry = number;
             }
+        } else if fields.wrong == 0 {
+            fields.wrong = place.wrapping_add(1);
         }
+        fields.tabs = place;
     }
-    Ok(numbers)
+    fields
 }
 
-/// What was read so far, in one text or in several.
-#[derive(Drop)]
-pub(crate) struct Reader {
-    pub(crate) layout: Vec<u32>,
-    pub(crate) weights: [u64; 5],
-    pub(crate) steps: Vec<Call>,
+// The field and the number of a line's fault, or twice 0. A good reference is placed.
+fn check(
+    layout: &mut [u32],
+    form: Form,
+    is_first: bool,
+    stepped: bool,
+    line: &[u8],
+) -> (usize, u64) {
+    let fields = fields_of(line);
+    let is_later = form.steps && !is_first;
+    let (stands, tabs) = match fields.word {
+        b"weights" => (form.steps && is_first, 5),
+        b"ref" => (form.references && !stepped && (is_later || !form.steps), 2),
+        word => match kind_of(word) {
+            Some(Kind::Fetch | Kind::Resume) => (is_later, 1),
+            Some(_) => (is_later, 2),
+            None => (false, 0),
+        },
+    };
+    if !stands {
+        return (1, 17);
+    }
+    if fields.tabs != tabs {
+        return (0, 18);
+    }
+    if fields.wrong > 0 {
+        return (fields.wrong, 19);
+    }
+    let [one, two, ..] = fields.numbers;
+    if matches!(fields.word, b"ref") {
+        match layout.get_mut(one as usize) {
+            Some(entry) if *entry == UNPLACED => *entry = two,
+            _ => return (2, 20),
+        }
+    } else if tabs == 2 && layout.get(two as usize).copied().unwrap_or(UNPLACED) == UNPLACED {
+        return (3, 21);
+    }
+    (0, 0)
 }
 
-impl Reader {
-    pub(crate) fn new(heap: Global) -> Result<Reader, AllocError> {
-        Ok(Reader {
-            layout: vec![in heap; UNPLACED; REFERENCES]?,
-            weights: [0; 5],
-            steps: Vec::new(heap),
-        })
+/// Reads a text to its end, or to its first fault, and places its references.
+pub(crate) fn read(layout: &mut [u32], form: Form, text: &[u8]) -> Option<Fault> {
+    if text.len() > MOST_BYTES {
+        return Some(Fault {
+            line: 0,
+            field: 0,
+            number: 15,
+        });
     }
-
-    fn may_stand(&self, form: Form, first: First, line: usize) -> bool {
-        match (form, first) {
-            (Form::Placement, First::Ref) => true,
-            (Form::Placement, _) => false,
-            (_, First::Weights) => line == 1,
-            (Form::Scenario, First::Ref) => line > 1 && self.steps.is_empty(),
-            (Form::Schedule, First::Ref) => false,
-            (_, First::Step(_)) => line > 1,
-        }
+    if text.is_empty() && form.steps {
+        return Some(Fault {
+            line: 1,
+            field: 1,
+            number: 17,
+        });
     }
-
-    // Tells whether the reference could be placed.
-    fn place(&mut self, reference: usize, block: usize) -> bool {
-        match self.layout.get_mut(reference) {
-            Some(entry) if *entry == UNPLACED => {
-                *entry = u32::try_from(block).unwrap_or(UNPLACED);
-                true
+    let mut stepped = false;
+    for (place, piece) in text.split_inclusive(|byte| *byte == b'\n').enumerate() {
+        let (field, number) = match piece {
+            [line @ .., b'\n'] if line.len() <= MOST_LINE => {
+                check(layout, form, place == 0, stepped, line)
             }
-            _ => false,
-        }
-    }
-
-    // The block of a reference that is placed.
-    fn block_of(&self, reference: usize) -> Option<usize> {
-        let entry = *self.layout.get(reference)?;
-        if entry == UNPLACED {
-            None
-        } else {
-            Some(entry as usize)
-        }
-    }
-
-    fn read_line(&mut self, form: Form, line: usize, bytes: &[u8]) -> Result<(), Stop> {
-        let fault = |field: usize, number: u64| Stop::at(form, line, field, number);
-        let word = bytes
-            .split(|byte| *byte == b'\t')
-            .next()
-            .and_then(First::of);
-        let Some(first) = word else {
-            return Err(fault(1, 17));
+            _ => (0, 16),
         };
-        if !self.may_stand(form, first, line) {
-            return Err(fault(1, 17));
+        if number > 0 {
+            return Some(Fault {
+                line: place.wrapping_add(1),
+                field,
+                number,
+            });
         }
-        if bytes.iter().filter(|byte| **byte == b'\t').count() != first.tabs() {
-            return Err(fault(0, 18));
-        }
-        let numbers = match numbers_in(bytes) {
-            Ok(numbers) => numbers,
-            Err(field) => return Err(fault(field, 19)),
-        };
-        let [one, two, ..] = numbers;
-        match first {
-            First::Weights => self.weights = numbers.map(|number| number as u64),
-            First::Ref if self.place(one, two) => {}
-            First::Ref => return Err(fault(2, 20)),
-            First::Step(kind) => {
-                let placed = if kind.names_block() {
-                    self.block_of(two)
-                } else {
-                    Some(0)
-                };
-                let Some(block) = placed else {
-                    return Err(fault(3, 21));
-                };
-                let core = one;
-                self.steps.push(Call { kind, core, block })?;
-            }
-        }
-        Ok(())
+        stepped = stepped || place > 0 && !piece.starts_with(b"ref");
     }
-
-    /// Reads a text to its end, or to its first fault.
-    pub(crate) fn read(&mut self, form: Form, text: &[u8]) -> Result<(), Stop> {
-        if text.len() > MOST_BYTES {
-            return Err(Stop::at(form, 0, 0, 15));
-        }
-        if text.is_empty() && form != Form::Placement {
-            return Err(Stop::at(form, 1, 1, 17));
-        }
-        for (place, piece) in text.split_inclusive(|byte| *byte == b'\n').enumerate() {
-            let line = place.wrapping_add(1);
-            match piece {
-                [bytes @ .., b'\n'] if bytes.len() <= MOST_LINE => self.read_line(
-                    form, line, bytes,
-                )?,
-                _ => return Err(Stop::at(form, line, 0, 16)),
-            }
-        }
-        Ok(())
-    }
+    None
 }
