@@ -34,6 +34,22 @@ const CELL: Cell = Cell {
     stamp: 0,
 };
 
+// The last line of a paired study, from the figures of its sides.
+fn difference(out: &mut String, a: Option<u64>, b: Option<u64>) -> Result<(), AllocError> {
+    let (Some(a), Some(b)) = (a, b) else {
+        return out.push_str("difference\t-\t-\n");
+    };
+    let apart = a.abs_diff(b);
+    let cheaper = if a < b {
+        "a"
+    } else if b < a {
+        "b"
+    } else {
+        "equal"
+    };
+    write!(out, "difference\t{apart}\t{cheaper}\n")
+}
+
 // The second side is played on mcsim's machine.
 fn pair_again(
     heap: Global,
@@ -49,9 +65,10 @@ fn pair_again(
             stamp: 0
         }; 16]?,
     };
-    let first = reference::side(heap, out, machine, "a\t", a, schedule)?;
-    let second = reference::side(heap, out, other, "b\t", b, schedule)?;
-    reference::difference(out, first.figure, second.figure)?;
+    let mut layout = [0; 256];
+    let first = reference::side(heap, out, machine, "a\t", a, schedule, &mut layout)?;
+    let second = reference::side(heap, out, other, "b\t", b, schedule, &mut layout)?;
+    difference(out, first.figure, second.figure)?;
     Ok(first.cells)
 }
 

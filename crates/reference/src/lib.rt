@@ -4,6 +4,8 @@
 //! that it is safe and ends, and what the program `compare` shows.
 #![tactic(auto)]
 
+ghost use Rattle.std.specs.Prelude.{◌≡◌, ◌≢◌, IfSome, length};
+
 pub mod machine;
 mod reading;
 pub mod study;
@@ -12,6 +14,13 @@ use crate::machine::{Cell, Machine};
 use crate::reading::{Fault, Form, REFERENCES, UNPLACED, fields_of, kind_of, read};
 use crate::study::{Call, Study};
 use std::alloc::{AllocError, Global};
+
+// The table has other than 256 entries.
+const NO_TABLE: Fault = Fault {
+    line: 0,
+    field: 0,
+    number: 14,
+};
 
 /// What the cells of the memory hold after a study, and its figure, if there is one.
 #[derive(Drop)]
@@ -97,7 +106,9 @@ fn tell(
     layout: &mut [u32],
     text: &[u8],
     fault: Option<Fault>,
-) -> Result<Told, AllocError> {
+) -> Result<Told, AllocError>
+    ensures { IfSome fault (λ f. f.number ≡ 14 → layout.new ≡ layout.old) }
+{
     let mut study = Study::new(heap, machine)?;
     let mut fault = fault;
     if fault.is_none() {
@@ -131,14 +142,16 @@ fn tell(
     })
 }
 
-/// Plays a scenario, leaves its placements in the layout table, and tells the report.
+/// Plays a scenario, leaves its placements in the layout table, and tells the report. A table of another length is left as it was.
 pub fn simulate(
     heap: Global,
     out: &mut String,
     machine: Machine,
     text: &[u8],
     layout: &mut [u32],
-) -> Result<Told, AllocError> {
+) -> Result<Told, AllocError>
+    ensures { length layout.old ≢ 256 → layout.new ≡ layout.old }
+{
     let fault = if layout.len() == REFERENCES {
         layout.fill(UNPLACED);
         let form = Form {
@@ -147,17 +160,14 @@ pub fn simulate(
         };
         read(layout, form, text)
     } else {
-        Some(Fault {
-            line: 0,
-            field: 0,
-            number: 14,
-        })
+        Some(NO_TABLE)
     };
     let names = Names { side: "", file: "" };
     tell(heap, out, names, machine, layout, text, fault)
 }
 
-/// The single study of a placement under a schedule, as a side of a paired study: its name is given with a tab.
+/// The single study of a placement under a schedule, as a side of a paired study: its name is given with a tab. The layout table
+/// is one of 256 entries; another is left as it was.
 pub fn side(
     heap: Global,
     out: &mut String,
@@ -165,38 +175,33 @@ pub fn side(
     side: &str,
     placement: &[u8],
     schedule: &[u8],
-) -> Result<Told, AllocError> {
-    let mut layout = [UNPLACED; REFERENCES];
+    layout: &mut [u32],
+) -> Result<Told, AllocError>
+    ensures { length layout.old ≢ 256 → layout.new ≡ layout.old }
+{
+    if layout.len() != REFERENCES {
+        let fault = Some(NO_TABLE);
+        let names = Names {
+            side,
+            file: "placement\t",
+        };
+        return tell(heap, out, names, machine, layout, schedule, fault);
+    }
+    layout.fill(UNPLACED);
     let mut file = "placement\t";
     let places = Form {
         references: true,
         steps: false,
     };
-    let mut fault = read(&mut layout, places, placement);
+    let mut fault = read(layout, places, placement);
     if fault.is_none() {
         file = "schedule\t";
         let steps = Form {
             references: false,
             steps: true,
         };
-        fault = read(&mut layout, steps, schedule);
+        fault = read(layout, steps, schedule);
     }
     let names = Names { side, file };
-    tell(heap, out, names, machine, &mut layout, schedule, fault)
-}
-
-/// The last line of a paired study, from the figures of its sides.
-pub fn difference(out: &mut String, a: Option<u64>, b: Option<u64>) -> Result<(), AllocError> {
-    let (Some(a), Some(b)) = (a, b) else {
-        return out.push_str("difference\t-\t-\n");
-    };
-    let apart = a.abs_diff(b);
-    let cheaper = if a < b {
-        "a"
-    } else if b < a {
-        "b"
-    } else {
-        "equal"
-    };
-    write!(out, "difference\t{apart}\t{cheaper}\n")
+    tell(heap, out, names, machine, layout, schedule, fault)
 }

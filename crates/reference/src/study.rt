@@ -1,4 +1,5 @@
 //! A study: cores over one memory, played call by call. The lines of all cores stand in one list of slots.
+ghost use Rattle.std.specs.Prelude.{◌≡◌, ◌≢◌, ◌≤◌, IfOk};
 
 use crate::machine::{Cell, Machine, Slot, places_of, slots_of};
 use std::alloc::{AllocError, Global};
@@ -67,7 +68,10 @@ pub struct Study {
 }
 
 impl Study {
-    pub fn new(heap: Global, machine: Machine) -> Result<Study, AllocError> {
+    /// A study that has counted nothing yet.
+    pub fn new(heap: Global, machine: Machine) -> Result<Study, AllocError>
+        ensures { IfOk result (λ s. (s.accepted ≡ 0) × (s.writes ≡ 0) × (s.accesses ≡ 0) × (s.total ≡ 0)) }
+    {
         let Machine {
             levels,
             parts,
@@ -91,7 +95,10 @@ impl Study {
     }
 
     /// Opens the study, or leaves all as it was and tells the number of the refusal.
-    pub fn open(&mut self, weights: [u32; 5]) -> u64 {
+    pub fn open(&mut self, weights: [u32; 5]) -> u64
+        ensures number { result ≤ 3 }
+        ensures refused { result ≢ 0 → self.new ≡ self.old }
+    {
         for weight in weights.iter() {
             if *weight > MOST_WEIGHT {
                 return 3;
@@ -121,7 +128,7 @@ impl Study {
     }
 
     /// The cells of all tables, as the study leaves them.
-    pub fn into_cells(self) -> Vec<Cell> {
+    pub(crate) fn into_cells(self) -> Vec<Cell> {
         let Study { cells, .. } = self;
         cells
     }
@@ -352,7 +359,9 @@ impl Study {
     }
 
     /// Makes a step, or refuses it and leaves all as it was.
-    pub fn step(&mut self, call: Call) -> Turn {
+    pub fn step(&mut self, call: Call) -> Turn
+        ensures { result.total ≡ self.new.total }
+    {
         let number = self.refusal(call);
         let refused = number > 0;
         let (word, value) = if refused {
