@@ -17,18 +17,7 @@ struct Fault {
     number: u32,
 }
 
-fn text(line: usize, field: usize, number: u32) -> Fault {
-    let layer = "text";
-    Fault {
-        layer,
-        line,
-        field,
-        number,
-    }
-}
-
-fn layout(line: usize, field: usize, number: u32) -> Fault {
-    let layer = "layout";
+fn fault(layer: &'static str, line: usize, field: usize, number: u32) -> Fault {
     Fault {
         layer,
         line,
@@ -70,17 +59,17 @@ fn numbers<'t, const N: usize>(
     let mut count = 0;
     for field in fields {
         if count == N {
-            return Err(text(line, 0, 18));
+            return Err(fault("text", line, 0, 18));
         }
         parts[count] = field;
         count += 1;
     }
     if count < N {
-        return Err(text(line, 0, 18));
+        return Err(fault("text", line, 0, 18));
     }
     let mut numbers = [0; N];
     for (place, part) in parts.iter().enumerate() {
-        numbers[place] = number(part).ok_or_else(|| text(line, place + 2, 19))?;
+        numbers[place] = number(part).ok_or_else(|| fault("text", line, place + 2, 19))?;
     }
     Ok(numbers)
 }
@@ -91,12 +80,12 @@ impl Scenario {
             .get(usize::from(reference))
             .copied()
             .flatten()
-            .ok_or_else(|| layout(line, 3, 21))
+            .ok_or_else(|| fault("layout", line, 3, 21))
     }
 
     fn line(&mut self, bytes: &[u8], line: usize) -> Result<(), Fault> {
         if bytes.len() > MOST_LINE {
-            return Err(text(line, 0, 16));
+            return Err(fault("text", line, 0, 16));
         }
         let mut fields = bytes.split(|byte| *byte == b'\t');
         let word = fields.next().unwrap_or(&[]);
@@ -106,7 +95,7 @@ impl Scenario {
                 let [reference, block] = numbers(fields, line)?;
                 match self.blocks.get_mut(usize::from(reference)) {
                     Some(entry @ None) => *entry = Some(block),
-                    _ => return Err(layout(line, 2, 20)),
+                    _ => return Err(fault("layout", line, 2, 20)),
                 }
             }
             (b"read" | b"write" | b"commit" | b"flush", true) => {
@@ -128,14 +117,14 @@ impl Scenario {
                 let [core] = numbers(fields, line)?;
                 self.calls.push(Call::Resume(usize::from(core)));
             }
-            _ => return Err(text(line, 1, 17)),
+            _ => return Err(fault("text", line, 1, 17)),
         }
         Ok(())
     }
 
     fn read(bytes: &[u8]) -> Result<Scenario, Fault> {
         if bytes.len() > MOST_BYTES {
-            return Err(text(0, 0, 15));
+            return Err(fault("text", 0, 0, 15));
         }
         let mut scenario = Scenario {
             weights: None,
@@ -150,16 +139,11 @@ impl Scenario {
             line += 1;
         }
         if !rest.is_empty() {
-            return Err(text(line, 0, 16));
+            return Err(fault("text", line, 0, 16));
         }
-        let weights = scenario.weights.ok_or_else(|| text(1, 1, 17))?;
+        let weights = scenario.weights.ok_or_else(|| fault("text", 1, 1, 17))?;
         if weights.iter().any(|weight| *weight > MOST_WEIGHT) {
-            return Err(Fault {
-                layer: "study",
-                line: 1,
-                field: 0,
-                number: 3,
-            });
+            return Err(fault("study", 1, 0, 3));
         }
         Ok(scenario)
     }
@@ -188,7 +172,11 @@ fn play(scenario: &Scenario, out: &mut impl Write) -> io::Result<()> {
     let (accesses, total) = (machine.accesses, machine.total);
     match accesses {
         0 => writeln!(out, "quote\t0\t{total}\t-"),
-        _ => writeln!(out, "quote\t{accesses}\t{total}\t{}", 100 * total / u64::from(accesses)),
+        _ => writeln!(
+            out,
+            "quote\t{accesses}\t{total}\t{}",
+            100 * total / u64::from(accesses)
+        ),
     }
 }
 
