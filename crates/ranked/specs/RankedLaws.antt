@@ -8,10 +8,10 @@ use Rattle.device.specs.Laws.{device_always}
 use Rattle.parts.specs.declared.mark.Mark.{Mark}
 use Rattle.parts.specs.declared.line.Line.{Line}
 use Rattle.parts.specs.Marks.{mark_number}
-use Rattle.tier.specs.Meaning.{TierCall, put, take, change, touch, clear, Holding, line, bare, TierLaws, Lawful}
+use Rattle.tier.specs.Meaning.{TierCall, put, take, change, touch, clear, Holding, line, if_held, bare, TierLaws, Lawful}
 use Rattle.tier.specs.Options.{never, none-some, some_of}
 use Rattle.tier.specs.Holdings.{mark_low}
-use Rattle.ranks.specs.Ranks.{Ranks, find, without, oldest, younger, spared, holding, ranked_view, if_found, touched, ranked_step, ranked, apart}
+use Rattle.ranks.specs.Ranks.{Ranks, find, without, oldest, younger, spared, holding, ranked_view, touched, ranked_step, ranked, apart}
 use Rattle.ranks.proofs.RanksLemmas.{find-block, find-without, find-gone, without-none, apart-without, find-push, find-push-other, apart-push, find-renewed, find-renewed-other, renewed-none, apart-renewed, oldest_found, younger-gone, younger-rest, younger-none, apart-younger}
 
 abbrev pub Sound : Ranks → Type 0
@@ -65,9 +65,6 @@ oust-gone : (free : Bool) (ls : Ranks) (g : Line) → Sound ls → oust free ls 
 oust-gone true ls g a e = never g e
 oust-gone false ls g a e = younger-gone ls g a e
 
-pub spared-none : (ways : ℕ) (ls : Ranks) (n : ℕ) → find ls n ≡ None → find (spared ways ls) n ≡ None
-spared-none ways ls = spare-none (nat_lt (length ls) ways) ls
-
 module _ (renews : Bool) (ways : ℕ) (ls : Ranks) (ok : Sound ls) where
   abbrev free : Bool
   free = nat_lt (length ls) ways
@@ -75,7 +72,7 @@ module _ (renews : Bool) (ways : ℕ) (ls : Ranks) (ok : Sound ls) where
   pub keeps : (c : TierCall) → Sound (ranked_step renews ways ls c)
   keeps (put n k s) = go (find ls n) refl
     where
-      go : (o : Option Line) → find ls n ≡ o → Sound (if_found o ls (spared ways ls ++ line n k s ∷ []))
+      go : (o : Option Line) → find ls n ≡ o → Sound (if_held o ls (spared ways ls ++ line n k s ∷ []))
       go None e = apart-push (spared ways ls) (line n k s) (spare-apart free ls ok) (spare-none free ls n e)
       go (Some g) e = ok
   keeps (take n) = apart-without ls n ok
@@ -89,7 +86,7 @@ module _ (renews : Bool) (ways : ℕ) (ls : Ranks) (ok : Sound ls) where
   keeps clear = refl
 
   put_next : (n : ℕ) (k : Mark) (s : ℕ) → find ls n ≡ None → ranked_step renews ways ls (put n k s) ≡ spared ways ls ++ line n k s ∷ []
-  put_next n k s e = ap (λ o. if_found o ls (spared ways ls ++ line n k s ∷ [])) e
+  put_next n k s e = ap (λ o. if_held o ls (spared ways ls ++ line n k s ∷ [])) e
 
   put_other : (n : ℕ) (k : Mark) (s b : ℕ) → find ls n ≡ None → (b ≢ n) → look (ranked_step renews ways ls (put n k s)) b ≡ look (spared ways ls) b
   put_other n k s b e ne = ap (λ ms. look ms b) (put_next n k s e) ∙ ap (option_map holding) (find-push-other (spared ways ls) (line n k s) b ne)
@@ -140,7 +137,7 @@ module _ (renews : Bool) (ways : ℕ) (ls : Ranks) (ok : Sound ls) where
     put_held = λ n k s h.
         let x = some_of (look ls n) h in
         let r = look-some ls n x.0 x.1 in
-        ap (ranked renews ways) (ap (λ o. if_found o ls (spared ways ls ++ line n k s ∷ [])) r.1);
+        ap (ranked renews ways) (ap (λ o. if_held o ls (spared ways ls ++ line n k s ∷ [])) r.1);
     take_free = λ n e. ap (ranked renews ways) (sym (without-none ls n (look_none ls n e)));
     change_free = λ n k s e. ap (ranked renews ways) (renewed-none ls (line n k s) (look_none ls n e));
     touch_free = λ n e. ap (ranked renews ways) (touch_free n (look_none ls n e));
