@@ -7,8 +7,9 @@ use lib.ListN.{length-replicate, get_or-replicate}
 use Rattle.device.specs.Device.{after, reach}
 use Rattle.parts.specs.declared.mark.Mark.{Mark}
 use Rattle.parts.specs.declared.line.Line.{Line}
+use Rattle.parts.specs.Lines.{shown_of}
 use Rattle.tier.specs.Meaning.{TierMeaning, TierCall, put, take, change, touch, clear, Holding, if_held, look_of, out_of, Lawful}
-use Rattle.ranks.specs.Ranks.{Ranks, find, holding, ranked_step, ranked}
+use Rattle.ranks.specs.Ranks.{Ranks, find, ranked_step, ranked}
 use Rattle.ranked.specs.Ages.{uses, last_use, LeavesWhenFull, OldestLeaves}
 use Rattle.ranked.specs.RankedLaws.{Sound, keeps as ranked-keeps, ranked-lawful, look_none}
 use Rattle.ranked.proofs.Full.{full_set}
@@ -51,7 +52,7 @@ put-names n k s m b ne = go (look_of m n)
 touch-names : (n : ℕ) → Names n (touch n)
 touch-names n m b ne = ne_eqb n b (λ q. ne (sym q))
 
-some_shown : (o : Option Line) → is_some (option_map holding o) ≡ is_some o
+some_shown : (o : Option Line) → is_some (option_map shown_of o) ≡ is_some o
 some_shown None = refl
 some_shown (Some g) = refl
 

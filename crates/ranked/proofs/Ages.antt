@@ -7,9 +7,10 @@ use Rattle.std.proofs.lemmas.Option.{same_Some}
 use Rattle.device.specs.Device.{reach}
 use Rattle.parts.specs.declared.mark.Mark.{Mark}
 use Rattle.parts.specs.declared.line.Line.{Line}
+use Rattle.parts.specs.Lines.{shown_of}
 use Rattle.tier.specs.Meaning.{TierMeaning, TierCall, put, take, change, touch, clear, line, if_held, look_of, out_of}
 use Rattle.tier.specs.Options.{never}
-use Rattle.ranks.specs.Ranks.{Ranks, find, without, renewed, oldest, younger, ousted, spared, holding, touched, ranked_step, ranked}
+use Rattle.ranks.specs.Ranks.{Ranks, find, without, renewed, oldest, younger, ousted, spared, touched, ranked_step, ranked}
 use Rattle.ranked.specs.Ages.{uses, last_use, LeavesWhenFull, OldestLeaves}
 use Rattle.ranks.proofs.RanksLemmas.{find-block, find-gone, younger-none}
 use Rattle.ranked.specs.RankedLaws.{Sound, keeps}
@@ -104,7 +105,7 @@ pub rises-step : (renews : Bool) (ways : ℕ) (ls : Ranks) (f : ℕ → ℕ) (t 
     → Rises (told renews (ranked renews ways ls) c t f) 0 (ranked_step renews ways ls c) (suc t)
 rises-step renews ways ls f t ok h (put n k s) = go (find ls n) refl
   where
-    go : (o : Option Line) → find ls n ≡ o → Rises (λ b. cond (if_held (option_map holding o) false (eqb n b)) t (f b)) 0 (if_held o ls (spared ways ls ++ line n k s ∷ [])) (suc t)
+    go : (o : Option Line) → find ls n ≡ o → Rises (λ b. cond (if_held (option_map shown_of o) false (eqb n b)) t (f b)) 0 (if_held o ls (spared ways ls ++ line n k s ∷ [])) (suc t)
     go None e = rises_use f (spared ways ls) t n (line n k s) refl (spared-none ways ls n e) (rises-spared f (ltb (length ls) ways) ls t h)
     go (Some g) e = rises-later f 0 ls t (suc t) (omega arith) h
 rises-step renews ways ls f t ok h (take n) = rises-without f 0 ls (suc t) n (rises-later f 0 ls t (suc t) (omega arith) h)
@@ -133,10 +134,10 @@ ousted-oldest ways ls g = go (ltb (length ls) ways)
     go true e = never g e
     go false e = e
 
-pub found_held : (ls : Ranks) (b : ℕ) → is_some (option_map holding (find ls b)) ≡ true → is_some (find ls b) ≡ true
+pub found_held : (ls : Ranks) (b : ℕ) → is_some (option_map shown_of (find ls b)) ≡ true → is_some (find ls b) ≡ true
 found_held ls b = go (find ls b)
   where
-    go : (o : Option Line) → is_some (option_map holding o) ≡ true → is_some o ≡ true
+    go : (o : Option Line) → is_some (option_map shown_of o) ≡ true → is_some o ≡ true
     go None e = e
     go (Some g) e = refl
 
@@ -145,10 +146,10 @@ found_held ls b = go (find ls b)
 one_set : (a b : ℕ) → a % 1 ≡ b % 1
 one_set a b = let p : a % 1 < 1 = mod-lt a (omega arith) in let q : b % 1 < 1 = mod-lt b (omega arith) in omega arith
 
-one_held : (ls : Ranks) (n b : ℕ) → is_some (find ls b) ≡ (is_some (option_map holding (find ls b)) && b % 1 == n % 1)
+one_held : (ls : Ranks) (n b : ℕ) → is_some (find ls b) ≡ (is_some (option_map shown_of (find ls b)) && b % 1 == n % 1)
 one_held ls n b = go (find ls b)
   where
-    go : (o : Option Line) → is_some o ≡ (is_some (option_map holding o) && b % 1 == n % 1)
+    go : (o : Option Line) → is_some o ≡ (is_some (option_map shown_of o) && b % 1 == n % 1)
     go None = refl
     go (Some g) = sym (eq-eqb (b % 1) (n % 1) (one_set b n))
 

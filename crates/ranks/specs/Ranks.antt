@@ -6,12 +6,13 @@ use Rattle.parts.specs.declared.line.Line.{Line}
 use Rattle.parts.specs.declared.refusal.BuildError.{BuildError}
 use Rattle.tier.specs.Building.{within, in_range_else}
 use Rattle.parts.specs.Lines.{shown_of}
-use Rattle.tier.specs.Meaning.{TierMeaning, TierView, TierCall, put, take, change, touch, clear, Holding, line, if_held}
+use Rattle.tier.specs.Meaning.{TierMeaning, TierView, TierCall, put, take, change, touch, clear, line, if_held}
 
 -- the lines that hold a block, the oldest first
 abbrev pub Ranks : Type 0
 Ranks = List Line
 
+-- the line of block n, and the lines without it
 abbrev pub find : Ranks → ℕ → Option Line
 find [] n = None
 find (g ∷ gs) n = cond (g.block == n) (Some g) (find gs n)
@@ -40,11 +41,9 @@ ousted ways ls = cond (nat_lt (length ls) ways) None (oldest ls)
 abbrev pub spared : ℕ → Ranks → Ranks
 spared ways ls = cond (nat_lt (length ls) ways) ls (younger ls)
 
-abbrev pub holding : Line → Holding
-holding = shown_of
-
+-- what is shown of the lines
 abbrev pub ranked_view : ℕ → Ranks → TierView
-ranked_view ways ls = record { look = λ n. option_map holding (find ls n); out = λ n k s. ousted ways ls }
+ranked_view ways ls = record { look = λ n. option_map shown_of (find ls n); out = λ n k s. ousted ways ls }
 
 -- a touch makes a block the youngest, where touches count
 abbrev pub touched : Bool → Ranks → ℕ → Option Line → Ranks
