@@ -11,7 +11,7 @@ use Rattle.assoc.specs.declared.set_associative.SetAssociative.{SetAssociative}
 use Rattle.assoc.specs.Sets.{Sets, lru, nth, called, index, sets_step, Placed, lru_of, lrus_of}
 use Rattle.assoc.specs.SetAssociative.{sets_of}
 use Rattle.assoc.specs.SetsLaws.{keeps}
-use Rattle.assoc.specs.Calls.{good_of}
+use Rattle.assoc.specs.Lrus.{good_of}
 
 -- after a call each set still holds blocks of its own only
 pub stays-placed : (t : SetAssociative) (ts : List (Ranked Lru)) (c : TierCall) → lrus_of ts ≡ sets_step (sets_of t) c → Placed (lrus_of ts)

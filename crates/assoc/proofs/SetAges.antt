@@ -1,16 +1,21 @@
 -- In each set the block that was put or touched longest ago leaves.
-use Rattle.std.proofs.Common.{◌≡◌, ℕ, suc, ◌%◌, ◌<◌, ◌≤◌, Bool, true, false, cond, eqb, ltb, List, [], ◌∷◌, length, is_some, Some, None, Option, sym, refl, ap, ◌∙◌, subst, arith, ltb-false, ltb-true, ne_eqb}
+use Rattle.std.proofs.Common.{◌≡◌, ℕ, suc, ◌%◌, ◌<◌, ◌≤◌, Bool, true, false, cond, ◌&&◌, eqb, ◌==◌, ltb, List, [], ◌∷◌, length, is_some, Some, None, Option, sym, refl, ap, ◌∙◌, subst, arith, ltb-false, ltb-true, ne_eqb, eqb-true}
+use Rattle.std.proofs.lemmas.Bool.{eqb-false}
+use Rattle.std.specs.Option.{option_map}
 use native.Mathlib.Decide.{ℕ_discrete}
 use lib.ListN.{length-replicate, get_or-replicate}
 use Rattle.device.specs.Device.{after, reach}
 use Rattle.parts.specs.declared.mark.Mark.{Mark}
 use Rattle.parts.specs.declared.line.Line.{Line}
+use Rattle.parts.specs.Lines.{shown_of}
 use Rattle.tier.specs.Meaning.{TierMeaning, TierCall, put, take, change, touch, clear, Holding, if_held, look_of, out_of, Lawful}
 use Rattle.ranks.specs.Ranks.{Ranks, find, ranked_step, ranked}
-use Rattle.ranked.specs.Ages.{uses, last_use, OldestLeaves}
+use Rattle.ranked.specs.Ages.{uses, last_use, LeavesWhenFull, OldestLeaves}
 use Rattle.ranked.specs.RankedLaws.{Sound, keeps as ranked-keeps, ranked-lawful, look_none}
+use Rattle.ranked.proofs.Full.{full_set}
 use Rattle.ranked.proofs.Ages.{Rises, rises-later, rises-other, rises-step, oldest-first, ousted-oldest, found_held}
-use Rattle.tier.specs.Options.{never, some_of, not_some}
+use Rattle.tier.specs.Options.{never, some_of}
+use Rattle.tier.proofs.Options.{not_some}
 use Rattle.assoc.specs.Sets.{Sets, lru, nth, called, index, sets_step, set_associative, empty, Placed}
 use Rattle.assoc.specs.SetsLaws.{nth_past, Good, keeps, within, nth-own, nth-other, same_count, count-clear, nth-clear, out-mate}
 
@@ -46,6 +51,18 @@ put-names n k s m b ne = go (look_of m n)
 
 touch-names : (n : ℕ) → Names n (touch n)
 touch-names n m b ne = ne_eqb n b (λ q. ne (sym q))
+
+some_shown : (o : Option Line) → is_some (option_map shown_of o) ≡ is_some o
+some_shown None = refl
+some_shown (Some g) = refl
+
+and-true : (x : Bool) → (x && true) ≡ x
+and-true true = refl
+and-true false = refl
+
+and-false : (x : Bool) → (x && false) ≡ false
+and-false true = refl
+and-false false = refl
 
 -- in the set of block n a call is judged as in the tier
 abbrev Local : ℕ → TierCall → Type 0
@@ -119,6 +136,34 @@ module _ (sets ways : ℕ) (ms : Sets) (f : ℕ → ℕ) (t : ℕ) (h : Aged set
       let there : is_some (look_of (ranked true ways r.lines) b) ≡ true = sym (ap (λ i. is_some (look_of (nth ms i) b)) (home_of b n e) ∙ ap (λ m. is_some (look_of m b)) r.is) ∙ held in
       oldest-first f r.lines t g b r.rises (ousted-oldest ways r.lines g (sym (ap (λ m. out_of m n k s) r.is) ∙ o)) (found_held r.lines b there) ne
 
+  -- what is found among the lines of the set of block n is what the tier holds of that set
+  set_held : (n b : ℕ) → is_some (find (h.rows (index ms n) (within ms h.good n)).lines b) ≡ (is_some (look_of whole b) && b % sets == n % sets)
+  set_held n b = go (b % sets == n % sets) refl
+    where
+      r : Row ways (nth ms (index ms n)) f t
+      r = h.rows (index ms n) (within ms h.good n)
+
+      shown : is_some (look_of (nth ms (index ms n)) b) ≡ is_some (find r.lines b)
+      shown = ap (λ m. is_some (look_of m b)) r.is ∙ some_shown (find r.lines b)
+
+      go : (e : Bool) → (b % sets == n % sets) ≡ e → is_some (find r.lines b) ≡ (is_some (look_of whole b) && e)
+      go true e =
+          sym shown ∙ ap (λ i. is_some (look_of (nth ms i) b)) (sym (home_of b n (eqb-true _ _ e))) ∙ sym (and-true (is_some (look_of whole b)))
+      go false e = away (is_some (find r.lines b)) refl ∙ sym (and-false (is_some (look_of whole b)))
+        where
+          away : (x : Bool) → is_some (find r.lines b) ≡ x → is_some (find r.lines b) ≡ false
+          away true q = absurd (eqb-false _ _ e (ap (λ i. b % i) (sym h.count) ∙ h.good.placed (index ms n) b (shown ∙ q) ∙ ap (λ i. n % i) h.count))
+          away false q = q
+
+  full_now : (n : ℕ) → 1 ≤ ways → LeavesWhenFull sets ways whole n
+  full_now n some =
+      let r = h.rows (index ms n) (within ms h.good n) in
+      full_set sets ways whole n r.lines some r.sound (set_held n) (λ k s. ap (λ m. out_of m n k s) r.is)
+
+full_run : (sets ways : ℕ) (cs : List TierCall) (ms : Sets) (f : ℕ → ℕ) (t : ℕ) → Aged sets ways ms f t → 1 ≤ ways → (n : ℕ) → LeavesWhenFull sets ways (reach (set_associative ms) cs) n
+full_run sets ways [] ms f t h some n = full_now sets ways ms f t h n some
+full_run sets ways (c ∷ cs) ms f t h some n = full_run sets ways cs (sets_step ms c) _ (suc t) (aged_step sets ways ms f t h c) some n
+
 last_first : (sets ways : ℕ) (cs : List TierCall) (ms : Sets) (f : ℕ → ℕ) (t : ℕ) → Aged sets ways ms f t → (n : ℕ) (k : Mark) (s : ℕ) (g : Line)
     → out_of (reach (set_associative ms) cs) n k s ≡ Some g → (b : ℕ) → is_some (look_of (reach (set_associative ms) cs) b) ≡ true → b % sets ≡ n % sets → (b ≡ g.block → ⊥)
     → last_use true (set_associative ms) cs t f g.block < last_use true (set_associative ms) cs t f b
@@ -162,8 +207,8 @@ empty-good sets ways some =
       placed = empty-placed sets ways (empty sets ways) refl;
     }
 
-pub oldest_leaves : (sets ways : ℕ) → 1 ≤ sets → OldestLeaves true sets (set_associative (empty sets ways))
-oldest_leaves sets ways some =
+pub oldest_leaves : (sets ways : ℕ) → 1 ≤ sets → 1 ≤ ways → OldestLeaves true sets ways (set_associative (empty sets ways))
+oldest_leaves sets ways some more =
     let len = length-replicate sets (lru ways) in
     let good = empty-good sets ways some in
     let start : Aged sets ways (empty sets ways) (λ _. 0) 1 = record {
@@ -172,6 +217,7 @@ oldest_leaves sets ways some =
       rows = λ i lt. record { lines = []; is = empty-nth sets ways i (subst (λ (j : ℕ). i < j) len lt); sound = refl; rises = omega arith };
     } in
     record {
+      when_full = λ cs n free. full_run sets ways cs (empty sets ways) (λ _. 0) 1 start more n;
       of_set = λ cs n k s g free o. of_set sets ways cs (empty sets ways) good len n k s g free o;
       longest = λ cs n k s g free o b held e ne. last_first sets ways cs (empty sets ways) (λ _. 0) 1 start n k s g o b held e ne;
     }

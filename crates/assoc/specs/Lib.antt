@@ -1,4 +1,4 @@
 pub mod Sets
 pub mod SetAssociative
 pub mod SetsLaws
-pub mod Calls
+pub mod Lrus

@@ -28,7 +28,6 @@ pub struct SetAssociative {
 impl SetAssociative {
     ghost use Rattle.assoc.specs.SetAssociative.{sets_of, meaning_of};
 
-    // Sets and ways are two numbers, as a cache is named: a struct of them would be made for this call alone.
     /// An empty tier of 1 to 16 sets of 1 to 4 ways. Block n belongs to set n mod `sets`; a put into a full set gives out the
     /// block of that set that was put or touched longest ago.
     pub fn new(
@@ -37,7 +36,7 @@ impl SetAssociative {
         ways: usize,
     ) -> Result<SetAssociative, BuildError<SetAssociative>>
         ensures built { Builds meaning_of result (built sets ways) }
-        ensures law { IfOk result (λ t. OldestLeaves true sets (meaning_of t)) }
+        ensures law { IfOk result (λ t. OldestLeaves true sets ways (meaning_of t)) }
     {
         SetAssociative::sized(heap, sets, ways)
     }
@@ -75,11 +74,11 @@ impl SetAssociative {
     }
 }
 
-#[tactic(auto, using(crate::specs::Calls::set_means))]
+#[tactic(auto, using(crate::specs::Lrus::set_means))]
 impl Tier for SetAssociative {
     ghost use Rattle.assoc.specs.SetAssociative.{sets_of, meaning_of};
     ghost use Rattle.assoc.specs.SetsLaws.{sets_lawful};
-    ghost use Rattle.assoc.specs.Calls.{good_of};
+    ghost use Rattle.assoc.specs.Lrus.{good_of};
 
     ghost meaning = { meaning_of };
 

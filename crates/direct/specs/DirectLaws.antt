@@ -1,23 +1,21 @@
--- A direct tier keeps the laws of a tier, and is direct-mapped.
-use Rattle.std.specs.Prelude.{◌≡◌, ℕ, zero, suc, ◌%◌, ◌<◌, ◌≤◌, true, cond, length, get_or, is_some, Some, None, Option, ◌≢◌, slice_index_or, slice_set, refl}
+-- A direct tier keeps the laws of a tier.
+use Rattle.std.specs.Prelude.{◌≡◌, ℕ, zero, suc, ◌%◌, ◌<◌, ◌≤◌, cond, length, get_or, Some, None, Option, ◌≢◌, slice_index_or, slice_set, refl}
 use Rattle.std.proofs.Common.{sym, ap, subst, ◌∙◌, mod-lt, arith, length-set, get_or-set_same, get_or-set_other, eq-eqb, ne_eqb}
 use Rattle.std.proofs.Math.Decide.{ℕ_discrete}
 use Rattle.std.proofs.lemmas.List.{length-replicate}
 use Rattle.std.specs.Option.{option_map}
 use Rattle.std.proofs.lemmas.Option.{same_Some}
-use Rattle.device.specs.Device.{Always}
 use Rattle.device.specs.Laws.{device_always}
 use Rattle.parts.specs.declared.mark.Mark.{Mark}
 use Rattle.parts.specs.declared.line.Line.{Line}
 use Rattle.parts.specs.Lines.{shown_of}
 use Rattle.parts.specs.Marks.{mark_number}
 use Rattle.tier.specs.Meaning.{TierCall, put, take, change, touch, clear, Holding, line, if_held, bare, TierLaws, Lawful}
-use Rattle.tier.specs.Options.{never, none-some, is_some_lem, some_of}
+use Rattle.tier.specs.Options.{never, none-some, is_some_lem}
 use Rattle.tier.specs.Holdings.{held-some, held_none, mark_low}
 use Rattle.direct.specs.declared.direct.Direct.{Direct}
 use Rattle.direct.specs.Lines.{Lines, slot, at, shows, direct_view, direct_step, direct, empty, Placed}
 use Rattle.direct.specs.Direct.{direct_of}
-use Rattle.direct.specs.Mapped.{DirectMapped}
 
 -- ---- what a line shows
 
@@ -28,7 +26,7 @@ shows-other : (g : Line) (n : ℕ) → (g.block ≢ n) → shows (Some g) n ≡ 
 shows-other g n e = ap (λ b. option_map shown_of (cond b (Some g) None)) (ne_eqb g.block n e)
 
 -- a line that shows block n holds it
-shown-own : (o : Option Line) (n : ℕ) (h : Holding) → shows o n ≡ Some h → (g : Line) × (o ≡ Some g) × (g.block ≡ n) × (shown_of g ≡ h)
+pub shown-own : (o : Option Line) (n : ℕ) (h : Holding) → shows o n ≡ Some h → (g : Line) × (o ≡ Some g) × (g.block ≡ n) × (shown_of g ≡ h)
 shown-own None n h e = never h e
 shown-own (Some g) n h e = elim (ℕ_discrete g.block n) [
   | yes q ↦ (g, refl, q, same_Some (shown_of g) h (sym (shows-own g n q) ∙ e))
@@ -103,7 +101,7 @@ module _ (lines : ℕ) (ls : Lines) (ok : Sound lines ls) where
   keeps clear = (ok.0, length-replicate len None ∙ ok.1, empty-placed (empty len) len refl)
 
   -- the block in the line of block n
-  there : (n : ℕ) (g : Line) → at ls n ≡ Some g → (slot ls g.block ≡ slot ls n) × (look ls g.block ≡ Some (shown_of g))
+  pub there : (n : ℕ) (g : Line) → at ls n ≡ Some g → (slot ls g.block ≡ slot ls n) × (look ls g.block ≡ Some (shown_of g))
   there n g e =
       let q = ok.2 (slot ls n) g e in
       (q, ap (λ i. shows (slice_index_or ls i None) g.block) q ∙ ap (λ o. shows o g.block) e ∙ shows-own g g.block refl)
@@ -164,42 +162,9 @@ module _ (lines : ℕ) (ls : Lines) (ok : Sound lines ls) where
     touch_free = λ n e. refl;
   }
 
-  -- ---- direct mapping
-
-  line_of : (b : ℕ) → is_some (look ls b) ≡ true → (g : Line) × (at ls b ≡ Some g) × (g.block ≡ b)
-  line_of b h = let x = some_of (look ls b) h in let r = shown-own (at ls b) b x.0 x.1 in (r.0, r.1, r.2)
-
-  slots : (a b : ℕ) → a % lines ≡ b % lines → slot ls a ≡ slot ls b
-  slots a b e = ap (λ m. a % m) ok.1 ∙ e ∙ sym (ap (λ m. b % m) ok.1)
-
-  mapped_so : DirectMapped lines (direct ls)
-  mapped_so = record {
-    alone = λ a b ha hb e.
-        let x = line_of a ha in
-        let y = line_of b hb in
-        let g : x.0 ≡ y.0 = same_Some x.0 y.0 (sym x.1 ∙ ap (λ i. get_or ls i None) (slots a b e) ∙ y.1) in
-        sym x.2 ∙ ap (λ (z : Line). z.block) g ∙ y.2;
-    ousted = λ n k s b h e.
-        let x = line_of b h in
-        ap (option_map (λ (g : Line). g.block)) (ap (λ i. get_or ls i None) (sym (slots b n e)) ∙ x.1) ∙ ap Some x.2;
-    spared = λ n k s h. go n h (at ls n) refl;
-    untouched = λ n. refl;
-  }
-    where
-      go : (n : ℕ) → ((b : ℕ) → is_some (look ls b) ≡ true → b % lines ≢ n % lines) → (o : Option Line) → at ls n ≡ o → at ls n ≡ None
-      go n h None e = e
-      go n h (Some g) e =
-          let r = there n g e in
-          absurd (h g.block (is_some_lem (look ls g.block) (shown_of g) r.1) (sym (ap (λ m. g.block % m) ok.1) ∙ r.0 ∙ ap (λ m. n % m) ok.1))
-
 pub direct-lawful : (lines : ℕ) (ls : Lines) → Sound lines ls → Lawful (direct ls)
 direct-lawful lines = device_always (λ _. 1) direct_view direct_step (λ s c. refl) TierLaws (Sound lines) (λ s c i. keeps lines s i c) (laws lines)
 
 -- of the tier that the code has
 pub direct_of-lawful : (d : Direct) → Lawful (direct_of d)
 direct_of-lawful d = direct-lawful (length d.lines.items) d.lines.items (omega (arith, d.some, d.lines.ok.0), refl, d.placed)
-
-pub direct_mapped : (lines : ℕ) → 1 ≤ lines → Always (DirectMapped lines) (direct (empty lines))
-direct_mapped lines h =
-    device_always (λ _. 1) direct_view direct_step (λ s c. refl) (DirectMapped lines) (Sound lines) (λ s c i. keeps lines s i c) (mapped_so lines) (empty lines)
-    (h, length-replicate lines None, empty-placed (empty lines) lines refl)

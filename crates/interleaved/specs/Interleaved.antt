@@ -1,5 +1,5 @@
 -- Two memories in turn: the even blocks are the one's, the odd blocks the other's.
-use Rattle.std.specs.Prelude.{◌++◌, Bool, cond, ℕ, ◌*◌, ◌/◌, ◌%◌, min, ltb, eqb}
+use Rattle.std.specs.Prelude.{◌++◌, Bool, cond, ℕ, ◌*◌, ◌/◌, ◌%◌, min, nat_lt, ◌==◌}
 use Rattle.device.specs.Device.{after, device}
 use Rattle.memory.specs.declared.cell.Cell.{Cell}
 use Rattle.memory.specs.Meaning.{MemoryMeaning, MemoryCall, View, size_of, cell_of, lent_of, block_of, on_block}
@@ -13,7 +13,7 @@ abbrev pub interleaved_size : Halves → ℕ
 interleaved_size h = min 65536 (2 * min (size_of h.even) (size_of h.odd))
 
 abbrev pub is_even : ℕ → Bool
-is_even n = eqb (n % 2) 0
+is_even n = n % 2 == 0
 
 -- a call on one half, and a cell of it
 abbrev pub half_step : Bool → Halves → MemoryCall → Halves
@@ -24,7 +24,7 @@ half_cell even h k = cond even (cell_of h.even k) (cell_of h.odd k)
 
 -- block n is block n / 2, rounded down, of its half
 abbrev pub interleaved_step : Halves → MemoryCall → Halves
-interleaved_step h c = cond (ltb (block_of c) (interleaved_size h)) (half_step (is_even (block_of c)) h (on_block (block_of c / 2) c)) h
+interleaved_step h c = cond (nat_lt (block_of c) (interleaved_size h)) (half_step (is_even (block_of c)) h (on_block (block_of c / 2) c)) h
 
 abbrev pub interleaved_view : Halves → View
 interleaved_view h = record { cell = λ n. half_cell (is_even n) h (n / 2); lent = lent_of h.even ++ lent_of h.odd }

@@ -1,5 +1,5 @@
 -- The laws of two memories in turn, from those of each.
-use Rattle.std.specs.Prelude.{◌≡◌, refl, List, [], ◌∷◌, ◌++◌, map, Bool, true, false, cond, ℕ, ◌/◌, ◌≤◌, ◌<◌, ltb}
+use Rattle.std.specs.Prelude.{◌≡◌, refl, List, [], ◌∷◌, ◌++◌, map, Bool, true, false, cond, ℕ, ◌/◌, ◌≤◌, ◌<◌, nat_lt}
 use Rattle.std.proofs.Common.{sym, ap, ◌∙◌, true≢false, arith, eqb-true, lt-ltb, le-ltb}
 use Rattle.std.proofs.lemmas.Bool.{eqb-false}
 use Rattle.device.specs.Device.{device}
@@ -60,15 +60,15 @@ on_half h c = half_step (is_even (block_of c)) h (on_block (block_of c / 2) c)
 
 interleaved-stays : (h : Halves) (c : MemoryCall) → interleaved_size (interleaved_step h c) ≡ interleaved_size h
 interleaved-stays h c =
-    elim (ltb (block_of c) (interleaved_size h)) as (λ b. interleaved_size (cond b (on_half h c) h) ≡ interleaved_size h) [ true ↦ half_size (is_even (block_of c)) h (on_block (block_of c / 2) c) | false ↦ refl ]
+    elim (nat_lt (block_of c) (interleaved_size h)) as (λ b. interleaved_size (cond b (on_half h c) h) ≡ interleaved_size h) [ true ↦ half_size (is_even (block_of c)) h (on_block (block_of c / 2) c) | false ↦ refl ]
 
 interleaved-good : (h : Halves) (c : MemoryCall) → Good h → Good (interleaved_step h c)
 interleaved-good h c good =
-    elim (ltb (block_of c) (interleaved_size h)) as (λ b. Good (cond b (on_half h c) h)) [ true ↦ half_good (is_even (block_of c)) h (on_block (block_of c / 2) c) good | false ↦ good ]
+    elim (nat_lt (block_of c) (interleaved_size h)) as (λ b. Good (cond b (on_half h c) h)) [ true ↦ half_good (is_even (block_of c)) h (on_block (block_of c / 2) c) good | false ↦ good ]
 
 interleaved-loans : (h : Halves) (c : MemoryCall) → Good h → names_of (interleaved_step h c) ≡ names_of h
 interleaved-loans h c good =
-    elim (ltb (block_of c) (interleaved_size h)) as (λ b. names_of (cond b (on_half h c) h) ≡ names_of h) [ true ↦ half_loans (is_even (block_of c)) h (on_block (block_of c / 2) c) good | false ↦ refl ]
+    elim (nat_lt (block_of c) (interleaved_size h)) as (λ b. names_of (cond b (on_half h c) h) ≡ names_of h) [ true ↦ half_loans (is_even (block_of c)) h (on_block (block_of c / 2) c) good | false ↦ refl ]
 
 interleaved_does : (h : Halves) (c : MemoryCall) → block_of c < interleaved_size h → interleaved_step h c ≡ on_half h c
 interleaved_does h c lt = ap (λ b. cond b (on_half h c) h) (lt-ltb _ _ lt)

@@ -1,7 +1,7 @@
 //! Two memories in turn.
 #![tactic(auto)]
 
-ghost use Rattle.std.specs.Prelude.{◌≡◌, ◌/◌, if◌then◌else◌, Ok, Err, ltb};
+ghost use Rattle.std.specs.Prelude.{◌≡◌, ◌/◌, if◌then◌else◌, Ok, Err, nat_lt};
 ghost use Rattle.memory.specs.declared.refusal.Refusal.TheVariants.{NoSuchBlock};
 ghost use Rattle.interleaved.specs.Interleaved.{interleaved_size, is_even, interleaved};
 ghost use Rattle.interleaved.specs.InterleavedLaws.{interleaved-lawful};
@@ -10,7 +10,7 @@ use memory::Memory;
 use memory::refusal::Refusal;
 
 // The half that a block is in, and the block's number there.
-// Each call matches on it for itself: the two memories are of different types, and no closure takes either.
+// Each call matches on it, since the two memories are of different types.
 #[derive(Clone, Copy, PartialEq, Eq, Debug)]
 enum Half {
     Even(u16),
@@ -27,8 +27,7 @@ pub struct Interleaved<E, O> {
 impl<E: Memory, O: Memory> Interleaved<E, O> {
     /// The two memories in turn.
     pub fn new(even: E, odd: O) -> Interleaved<E, O>
-        ensures parts { (result.even ≡ even) × (result.odd ≡ odd) }
-        ensures meaning { interleaved (E.Memory.meaning result.even) (O.Memory.meaning result.odd) ≡ interleaved (E.Memory.meaning even) (O.Memory.meaning odd) }
+        ensures { (result.even ≡ even) × (result.odd ≡ odd) }
     {
         Self { even, odd }
     }
@@ -43,7 +42,7 @@ impl<E: Memory, O: Memory> Interleaved<E, O> {
 
     /// The half that a block is in, and its number there.
     fn half(&self, block: u16) -> Result<Half, Refusal>
-        ensures { result ≡ (if ltb block (interleaved_size (record { even = E.Memory.meaning self.now.even; odd = O.Memory.meaning self.now.odd })) then Ok (if is_even block then Half.Even (block / 2) else Half.Odd (block / 2)) else Err NoSuchBlock) }
+        ensures { result ≡ (if nat_lt block (interleaved_size (record { even = E.Memory.meaning self.now.even; odd = O.Memory.meaning self.now.odd })) then Ok (if is_even block then Half.Even (block / 2) else Half.Odd (block / 2)) else Err NoSuchBlock) }
     {
         if u32::from(block) >= self.size() {
             Err(Refusal::NoSuchBlock)

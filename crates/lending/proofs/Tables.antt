@@ -1,13 +1,22 @@
 -- The table that a memory was lent, once one of its blocks was retired.
-use Rattle.std.proofs.Common.{◌≡◌, ℕ, ◌+◌, List, [], ◌∷◌, length, refl, ap, arith, length-set, get_or-set_same, set-set}
+use Rattle.std.proofs.Common.{◌≡◌, ℕ, ◌+◌, List, [], ◌∷◌, length, refl, sym, ap, ◌∙◌, arith, length-set, get_or-set_same, set-set}
 use Rattle.std.proofs.lemmas.Bool.Decides.{nat_tests}
 use Rattle.device.specs.Device.{after}
 use Rattle.memory.specs.declared.cell.Cell.{Cell}
-use Rattle.memory.specs.Meaning.{MemoryMeaning, store, stale, lent_of}
+use Rattle.memory.specs.Meaning.{MemoryMeaning, Lent, store, stale, lent_of}
 use Rattle.memory.specs.Flat.{flat_step, flat}
-use Rattle.memory.specs.FlatLaws.{lent_same}
 use Rattle.window.specs.Window.{window}
 use Rattle.lending.specs.Retired.{retired, retired_in}
+
+-- where two memories show the same, and each was lent one table, that is the same
+abbrev first : List Lent → Lent
+first [] = record { name = 0; cells = [] }
+first (x ∷ xs) = x
+
+lent_same : (m w : MemoryMeaning) (x y : Lent) → m ≡ w → lent_of m ≡ x ∷ [] → lent_of w ≡ y ∷ [] → (x.name ≡ y.name) × (x.cells ≡ y.cells)
+lent_same m w x y e p q =
+    let same : x ∷ [] ≡ y ∷ [] = sym p ∙ ap (λ (v : MemoryMeaning). lent_of v) e ∙ q in
+    (ap (λ (l : List Lent). (first l).name) same, ap (λ (l : List Lent). (first l).cells) same)
 
 steps-retired : (t : List Cell) (n s : ℕ) → flat_step (flat_step t (store n s)) (stale n) ≡ retired t n s
 steps-retired t n s =

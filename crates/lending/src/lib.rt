@@ -11,7 +11,6 @@ use memory::cell::Cell;
 use memory::flat::Flat;
 use window::Window;
 
-// Block and stamp stand apart as `store` takes them, and start and length as a window does.
 /// Stores a last stamp in a block of any memory, and makes the block stale.
 pub fn retire<M: Memory>(memory: &mut M, block: u16, stamp: u32)
     ensures { M.Memory.meaning memory.new ≡ after (after (M.Memory.meaning memory.old) (store block stamp)) (stale block) }
@@ -44,8 +43,8 @@ pub fn retire_in_table(table: &mut [Cell], block: u16, stamp: u32)
     retire_flat(&mut flat, block, stamp);
 }
 
-// Tried without it, five ways: the window is moved into a call and out of it, and the check knows what a lent table ends as
-// only where the lending call's result stays in its place. So this function gives the table back.
+// The window is moved into a call and out of it, and the check knows what a lent table ends as only where the lending call's
+// result stays in its place. So this function gives the table back.
 fn lend_to_window<'a>(
     table: &'a mut [Cell],
     start: u32,

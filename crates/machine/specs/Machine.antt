@@ -4,6 +4,7 @@ use Rattle.protocol.specs.declared.access.CoreState.TheVariants.{Ready}
 use Rattle.tier.specs.declared.pile.Pile.{Pile}
 use Rattle.tier.specs.Meaning.{TierMeaning}
 use Rattle.tier.specs.Pile.{pile}
+use Rattle.tier.specs.Piled.{pile_of}
 use Rattle.direct.specs.declared.direct.Direct.{Direct}
 use Rattle.direct.specs.Direct.{direct_of}
 use Rattle.direct.specs.Lines.{direct, empty}
@@ -24,7 +25,7 @@ two_cores = core two_levels Ready ∷ core two_levels Ready ∷ []
 
 -- what caches of that shape mean, and two cores with them
 abbrev pub caches_of : Pile Direct SetAssociative → TierMeaning
-caches_of p = pile (direct_of p.upper) (meaning_of p.lower)
+caches_of = pile_of direct_of meaning_of
 
 abbrev pub core_of : Core (Pile Direct SetAssociative) → CoreMeaning
 core_of c = core (caches_of c.tier) c.state

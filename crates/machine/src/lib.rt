@@ -16,6 +16,13 @@ use row::one_core::Core;
 use std::alloc::{AllocError, Global};
 use tier::pile::Pile;
 
+/// How many blocks main memory has.
+pub const BLOCKS: usize = 16;
+
+/// The machine in words, broken as the help texts of the programs have it.
+pub const IN_WORDS: &str = "two cores, each with a
+direct tier of 2 lines on a set-associative tier of 2 sets of 2 ways, over a memory of 16 blocks";
+
 /// Caches of two levels, a direct tier on a set-associative one.
 pub type Caches = Pile<Direct, SetAssociative>;
 

@@ -1,17 +1,17 @@
 -- A memory over a table of cells: block n is cell n.
-use Rattle.std.specs.Prelude.{ℕ, Bool, cond, ◌&&◌, List, [], ◌∷◌, length, get_or, nat_le, nat_lt, slice_index_or, slice_set}
+use Rattle.std.specs.Prelude.{ℕ, Bool, cond, List, [], ◌∷◌, length, get_or, nat_lt, slice_index_or, slice_set}
 use Rattle.device.specs.Device.{device}
 use Rattle.memory.specs.declared.cell.Cell.{Cell}
 use Rattle.memory.specs.declared.cell.State.TheVariants.{Valid, Stale}
 use Rattle.memory.specs.Meaning.{MemoryCall, store, stale, View, MemoryMeaning}
 
--- a block table has 1 to 4,096 cells
-abbrev pub fits : List Cell → Bool
-fits t = nat_le 1 (length t) && nat_le (length t) 4096
-
 -- a table of more than 4,096 cells is a memory with no block, as is one of none
 abbrev pub flat_size : List Cell → ℕ
 flat_size t = cond (nat_lt 4096 (length t)) 0 (length t)
+
+-- a block table makes a memory with a block: it has 1 to 4,096 cells
+abbrev pub fits : List Cell → Bool
+fits t = nat_lt 0 (flat_size t)
 
 -- what stands past the end of a table
 abbrev pub no_cell : Cell

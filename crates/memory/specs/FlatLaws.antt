@@ -1,10 +1,10 @@
 -- The laws of a memory over a table.
-use Rattle.std.specs.Prelude.{◌≡◌, ℕ, ◌<◌, ◌≤◌, Bool, true, false, cond, List, [], ◌∷◌, length, get_or, ◌≢◌, nat_lt, slice_index_or, slice_set, refl}
+use Rattle.std.specs.Prelude.{◌≡◌, ℕ, ◌<◌, ◌≤◌, Bool, true, false, cond, List, length, get_or, ◌≢◌, nat_lt, slice_index_or, slice_set, refl}
 use Rattle.std.proofs.Common.{sym, ap, ◌∙◌, arith, length-set, get_or-set_same, get_or-set_other, ltb-false, lt-ltb, le-ltb}
 use Rattle.device.specs.Device.{after}
 use Rattle.device.specs.Laws.{device-after, device_always}
 use Rattle.memory.specs.declared.cell.Cell.{Cell}
-use Rattle.memory.specs.Meaning.{MemoryMeaning, MemoryCall, store, stale, Lent, lent_of, block_of, result, stamp_of, MemoryLaws, Lawful}
+use Rattle.memory.specs.Meaning.{MemoryCall, store, stale, block_of, result, stamp_of, MemoryLaws, Lawful}
 use Rattle.memory.specs.Flat.{flat_size, no_cell, write, flat_step, flat_view, flat}
 
 -- the size, by the number of cells
@@ -70,13 +70,3 @@ module _ (a : ℕ) where
 
   pub flat-lawful : (t : List Cell) → Lawful (flat a t)
   flat-lawful t = device_always flat_size (flat_view a) flat_step flat-stays MemoryLaws (λ _. Unit {0}) (λ s c u. tt) flat-laws t tt
-
--- where two memories show the same, and each was lent one table, that is the same
-abbrev first : List Lent → Lent
-first [] = record { name = 0; cells = [] }
-first (x ∷ xs) = x
-
-pub lent_same : (m w : MemoryMeaning) (x y : Lent) → m ≡ w → lent_of m ≡ x ∷ [] → lent_of w ≡ y ∷ [] → (x.name ≡ y.name) × (x.cells ≡ y.cells)
-lent_same m w x y e p q =
-    let same : x ∷ [] ≡ y ∷ [] = sym p ∙ ap (λ (v : MemoryMeaning). lent_of v) e ∙ q in
-    (ap (λ (l : List Lent). (first l).name) same, ap (λ (l : List Lent). (first l).cells) same)

@@ -1,4 +1,5 @@
--- What a main memory is: its size, and what it shows after any list of calls. And its laws.
+-- A main memory: numbered blocks, each valid with a stamp, the number of the write that its copy shows, or stale, where a newer
+-- copy lives in some cache. What it is: its size, and what it shows after any list of calls. And its laws.
 use Rattle.std.specs.Prelude.{◌≡◌, ℕ, ◌<◌, ◌≤◌, cond, List, map, Some, None, Ok, Err, Option, Result, ◌≢◌, nat_lt}
 use Rattle.device.specs.Device.{Device, after, seen, Always}
 use Rattle.memory.specs.declared.cell.Cell.{Cell}

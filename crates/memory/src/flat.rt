@@ -28,7 +28,7 @@ impl<'a> Flat<'a> {
     /// The memory over a table of 1 to 4,096 cells, which stay as they are.
     pub fn new(table: &'a mut [Cell]) -> Result<Flat<'a>, RefusedTable<'a>>
         ensures fits { is_ok result ≡ fits table.old }
-        ensures holds { MatchResult result (λ f. f.table ≡ table.entry) (λ e. (e.refusal ≡ BadTable) × (e.memory.table ≡ table.entry) × (flat_size table.old ≡ 0)) }
+        ensures holds { MatchResult result (λ f. f.table ≡ table.entry) (λ e. (e.refusal ≡ BadTable) × (e.memory.table ≡ table.entry)) }
     {
         let fits = (1..=MOST_CELLS).contains(&table.len());
         let memory = Flat::over(table);
@@ -76,7 +76,7 @@ impl<'a> Memory for Flat<'a> {
 
     fn size(&self) -> u32 {
         let cells = self.table.len();
-        // `as` is proved to lose nothing: `try_from` would bring an error that cannot come
+        // `as` loses nothing: proved
         if cells > MOST_CELLS { 0 } else { cells as u32 }
     }
 

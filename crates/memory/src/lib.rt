@@ -27,7 +27,6 @@ pub trait Memory {
         ensures { result ≡ asked (meaning self.now) block };
 
     /// Makes a block valid with a stamp.
-    // Block and stamp stand apart: a `Line` has a mark too, and a struct of these two would be made for such calls alone.
     fn store(&mut self, block: u16, stamp: u32) -> Result<(), Refusal>
         ensures answer { result ≡ granted (meaning self.old) block }
         ensures next { meaning self.new ≡ after (meaning self.old) (store block stamp) };

@@ -11,7 +11,6 @@ pub enum Refusal {
 }
 
 /// The number by which a report names the refusal.
-// Each enum of refusals has an impl of its own: they stand in three crates, and the gate refuses one that our macro wrote.
 impl From<Refusal> for u8 {
     ghost from_gives = { λ r n. n ≡ refusal_number r };
 

@@ -4,23 +4,35 @@
 ghost use Rattle.std.specs.Prelude.{◌≡◌};
 ghost use Rattle.numeral.specs.Number.{number_of, ReadsDecimals};
 
+use std::fmt;
 use thiserror::Error;
 
 /// Why bytes are no number.
 #[derive(Clone, Copy, PartialEq, Eq, Debug, Error)]
 pub enum BadNumber {
     /// There are no bytes.
-    #[error("there is no number")]
     Empty,
     /// A byte is no digit, or a zero leads.
-    #[error("not a decimal number without leading zeros")]
     NotDecimal,
     /// The number is above 65,535.
-    #[error("numbers end at 65535")]
     TooLarge,
 }
 
-// No `TryFrom`: neither the bytes nor the number is a type of this crate.
+impl fmt::Display for BadNumber {
+    ghost use Rattle.std.specs.Prelude.{Some};
+    ghost use Rattle.numeral.specs.Messages.{message};
+
+    ghost output = { λ bad. Some (message bad) };
+
+    fn fmt<W: fmt::Write>(&self, f: &mut fmt::Formatter<W>) -> fmt::Result {
+        match self {
+            BadNumber::Empty => f.write_str("there is no number"),
+            BadNumber::NotDecimal => f.write_str("not a decimal number without leading zeros"),
+            BadNumber::TooLarge => f.write_str("numbers end at 65535"),
+        }
+    }
+}
+
 /// The number that the bytes write. It is read just where the bytes are what that number is written as.
 pub fn number(bytes: &[u8]) -> Result<u16, BadNumber>
     ensures value { result ≡ number_of bytes.now }

@@ -1,4 +1,4 @@
--- The number of each mark.
+-- The mark of a copy: shared, or modified, which is newer than main memory. And the number of each.
 use Rattle.std.specs.Prelude.{◌≡◌, ℕ, zero, suc, Some, None, Ok, Err, Option, Result}
 use Rattle.parts.specs.declared.mark.Mark.{Mark}
 use Rattle.parts.specs.declared.mark.Mark.TheVariants.{Shared, Modified}

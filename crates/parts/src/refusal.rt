@@ -14,7 +14,6 @@ pub enum Refusal {
 }
 
 /// The number by which a report names the refusal.
-// Each enum of refusals has an impl of its own: they stand in three crates, and the gate refuses one that our macro wrote.
 impl From<Refusal> for u8 {
     ghost from_gives = { λ refusal number. number ≡ refusal_number refusal };
 
@@ -37,7 +36,6 @@ pub enum BuildError<T> {
 
 impl<T> BuildError<T> {
     /// The number by which a report names the refusal; want of memory has none.
-    // No `From`: it only looks, and may have no number to give.
     pub fn number(&self) -> Option<u8>
         ensures { result ≡ build_number self.now }
     {

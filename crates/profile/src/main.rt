@@ -8,8 +8,7 @@ use std::io::{BufRead, BufReader};
 use std::{fmt, io};
 use tier::Tier;
 
-// A row of the report: the number of the access, its block, the level that served it (0 for a miss, as the report has always
-// had it), the block that left, or `-` as in a quote: two lines, and no crate for text stands below both.
+// A row of the profile: an access, and how many there were up to it.
 #[derive(Clone, Copy)]
 struct Row {
     number: u64,
@@ -17,7 +16,13 @@ struct Row {
     access: Access,
 }
 
+/// Number, block, level (0 for a miss) and the block that left (`-` for none), parted by tabs.
 impl fmt::Display for Row {
+    ghost use Rattle.std.specs.Prelude.{Some};
+    ghost use Rattle.profile.specs.Rows.{row_text};
+
+    ghost output = { λ row. Some (row_text row) };
+
     fn fmt<W: fmt::Write>(&self, f: &mut fmt::Formatter<W>) -> fmt::Result {
         let Row {
             number,

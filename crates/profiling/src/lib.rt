@@ -37,7 +37,7 @@ fn place(level: Option<u32>) -> Option<usize>
 {
     match level {
         None => Some(0),
-        // `as` is proved to lose nothing: `try_from` would bring an error that cannot come
+        // `as` loses nothing: proved
         Some(level @ 1..=4) => Some(level as usize),
         Some(_) => None,
     }

@@ -1,5 +1,5 @@
 -- Lines by age are lines by their last use.
-use Rattle.std.proofs.Common.{◌≡◌, ℕ, suc, ◌%◌, ◌<◌, ◌≤◌, Bool, true, false, cond, eqb, ltb, List, [], ◌∷◌, ◌++◌, length, is_some, Some, None, Option, sym, refl, ap, ◌∙◌, subst, mod-lt, arith, eq-eqb, ne_eqb}
+use Rattle.std.proofs.Common.{◌≡◌, ℕ, suc, ◌%◌, ◌<◌, ◌≤◌, Bool, true, false, cond, ◌&&◌, eqb, ◌==◌, ltb, List, [], ◌∷◌, ◌++◌, length, is_some, Some, None, Option, sym, refl, ap, ◌∙◌, subst, mod-lt, arith, eq-eqb, ne_eqb}
 use native.Mathlib.Decide.{ℕ_discrete}
 use Rattle.std.proofs.lemmas.Bool.Decides.{nat_tests}
 use Rattle.std.specs.Option.{option_map}
@@ -7,12 +7,14 @@ use Rattle.std.proofs.lemmas.Option.{same_Some}
 use Rattle.device.specs.Device.{reach}
 use Rattle.parts.specs.declared.mark.Mark.{Mark}
 use Rattle.parts.specs.declared.line.Line.{Line}
+use Rattle.parts.specs.Lines.{shown_of}
 use Rattle.tier.specs.Meaning.{TierMeaning, TierCall, put, take, change, touch, clear, line, if_held, look_of, out_of}
 use Rattle.tier.specs.Options.{never}
-use Rattle.ranks.specs.Ranks.{Ranks, find, without, renewed, oldest, younger, ousted, spared, holding, if_found, touched, ranked_step, ranked}
-use Rattle.ranked.specs.Ages.{uses, last_use, OldestLeaves}
-use Rattle.ranks.proofs.RanksLemmas.{find-block, find-gone}
-use Rattle.ranked.specs.RankedLaws.{Sound, keeps, spared-none}
+use Rattle.ranks.specs.Ranks.{Ranks, find, without, renewed, oldest, younger, ousted, spared, touched, ranked_step, ranked}
+use Rattle.ranked.specs.Ages.{uses, last_use, LeavesWhenFull, OldestLeaves}
+use Rattle.ranks.proofs.RanksLemmas.{find-block, find-gone, younger-none}
+use Rattle.ranked.specs.RankedLaws.{Sound, keeps}
+use Rattle.ranked.proofs.Full.{full_set}
 
 -- the last uses rise along the lines, from low on, and lie before t
 abbrev pub Rises : (ℕ → ℕ) → ℕ → Ranks → ℕ → Type 0
@@ -60,6 +62,13 @@ rises-spared : (f : ℕ → ℕ) (free : Bool) (ls : Ranks) (t : ℕ) → Rises 
 rises-spared f true ls t h = h
 rises-spared f false ls t h = rises-younger f ls t h
 
+spared-none : (ways : ℕ) (ls : Ranks) (n : ℕ) → find ls n ≡ None → find (spared ways ls) n ≡ None
+spared-none ways ls n e = go (ltb (length ls) ways)
+  where
+    go : (free : Bool) → find (cond free ls (younger ls)) n ≡ None
+    go true = e
+    go false = younger-none ls n e
+
 -- a use of a block that is not among the lines
 pub rises-other : (f f' : ℕ → ℕ) (low : ℕ) (ls : Ranks) (t n : ℕ) → find ls n ≡ None → ((b : ℕ) → (b ≡ n → ⊥) → f' b ≡ f b) → Rises f low ls t → Rises f' low ls t
 rises-other f f' low [] t n e same h = h
@@ -96,7 +105,7 @@ pub rises-step : (renews : Bool) (ways : ℕ) (ls : Ranks) (f : ℕ → ℕ) (t 
     → Rises (told renews (ranked renews ways ls) c t f) 0 (ranked_step renews ways ls c) (suc t)
 rises-step renews ways ls f t ok h (put n k s) = go (find ls n) refl
   where
-    go : (o : Option Line) → find ls n ≡ o → Rises (λ b. cond (if_held (option_map holding o) false (eqb n b)) t (f b)) 0 (if_found o ls (spared ways ls ++ line n k s ∷ [])) (suc t)
+    go : (o : Option Line) → find ls n ≡ o → Rises (λ b. cond (if_held (option_map shown_of o) false (eqb n b)) t (f b)) 0 (if_held o ls (spared ways ls ++ line n k s ∷ [])) (suc t)
     go None e = rises_use f (spared ways ls) t n (line n k s) refl (spared-none ways ls n e) (rises-spared f (ltb (length ls) ways) ls t h)
     go (Some g) e = rises-later f 0 ls t (suc t) (omega arith) h
 rises-step renews ways ls f t ok h (take n) = rises-without f 0 ls (suc t) n (rises-later f 0 ls t (suc t) (omega arith) h)
@@ -125,14 +134,24 @@ ousted-oldest ways ls g = go (ltb (length ls) ways)
     go true e = never g e
     go false e = e
 
-pub found_held : (ls : Ranks) (b : ℕ) → is_some (option_map holding (find ls b)) ≡ true → is_some (find ls b) ≡ true
+pub found_held : (ls : Ranks) (b : ℕ) → is_some (option_map shown_of (find ls b)) ≡ true → is_some (find ls b) ≡ true
 found_held ls b = go (find ls b)
   where
-    go : (o : Option Line) → is_some (option_map holding o) ≡ true → is_some o ≡ true
+    go : (o : Option Line) → is_some (option_map shown_of o) ≡ true → is_some o ≡ true
     go None e = e
     go (Some g) e = refl
 
 -- ---- a tier of one set
+
+one_set : (a b : ℕ) → a % 1 ≡ b % 1
+one_set a b = let p : a % 1 < 1 = mod-lt a (omega arith) in let q : b % 1 < 1 = mod-lt b (omega arith) in omega arith
+
+one_held : (ls : Ranks) (n b : ℕ) → is_some (find ls b) ≡ (is_some (option_map shown_of (find ls b)) && b % 1 == n % 1)
+one_held ls n b = go (find ls b)
+  where
+    go : (o : Option Line) → is_some o ≡ (is_some (option_map shown_of o) && b % 1 == n % 1)
+    go None = refl
+    go (Some g) = sym (eq-eqb (b % 1) (n % 1) (one_set b n))
 
 module _ (renews : Bool) (ways : ℕ) where
   last_first : (cs : List TierCall) (ls : Ranks) (f : ℕ → ℕ) (t : ℕ) → Sound ls → Rises f 0 ls t → (n : ℕ) (k : Mark) (s : ℕ) (g : Line)
@@ -142,11 +161,13 @@ module _ (renews : Bool) (ways : ℕ) where
   last_first (c ∷ cs) ls f t ok h n k s g o b held ne =
       last_first cs (ranked_step renews ways ls c) _ (suc t) (keeps renews ways ls ok c) (rises-step renews ways ls f t ok h c) n k s g o b held ne
 
-one_set : (a b : ℕ) → a % 1 ≡ b % 1
-one_set a b = let p : a % 1 < 1 = mod-lt a (omega arith) in let q : b % 1 < 1 = mod-lt b (omega arith) in omega arith
+  full_run : (cs : List TierCall) (ls : Ranks) → 1 ≤ ways → Sound ls → (n : ℕ) → LeavesWhenFull 1 ways (reach (ranked renews ways ls) cs) n
+  full_run [] ls some ok n = full_set 1 ways (ranked renews ways ls) n ls some ok (one_held ls n) (λ k s. refl)
+  full_run (c ∷ cs) ls some ok n = full_run cs (ranked_step renews ways ls c) some (keeps renews ways ls ok c) n
 
-pub oldest_leaves : (renews : Bool) (ways : ℕ) → OldestLeaves renews 1 (ranked renews ways [])
-oldest_leaves renews ways = record {
+pub oldest_leaves : (renews : Bool) (ways : ℕ) → 1 ≤ ways → OldestLeaves renews 1 ways (ranked renews ways [])
+oldest_leaves renews ways some = record {
+  when_full = λ cs n e. full_run renews ways cs [] some refl n;
   of_set = λ cs n k s g e o. one_set g.block n;
   longest = λ cs n k s g e o b held same ne. last_first renews ways cs [] (λ _. 0) 1 refl (omega arith) n k s g o b held ne;
 }

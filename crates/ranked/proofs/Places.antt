@@ -4,7 +4,7 @@ use Rattle.std.proofs.lemmas.Bool.Decides.{nat_tests}
 use Rattle.std.specs.List.{remove, position, position_or_len}
 use Rattle.parts.specs.declared.line.Line.{Line}
 use Rattle.ranks.specs.Ranks.{Ranks, find, without, renewed, apart}
-use Rattle.ranked.specs.Ranked.{no_line, Place}
+use Rattle.ranked.specs.Private.{no_line, Place}
 use Rattle.ranks.proofs.RanksLemmas.{find-block, find-gone, without-none, apart-without, renewed-none, apart-renewed}
 
 abbrev pub has : ℕ → Line → Bool

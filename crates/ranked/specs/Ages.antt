@@ -1,5 +1,7 @@
--- Which block leaves, told by when the blocks were last used.
-use Rattle.std.specs.Prelude.{◌≡◌, ℕ, suc, ◌%◌, ◌<◌, Bool, true, false, cond, List, [], ◌∷◌, is_some, Some, None, ◌==◌, ◌≢◌}
+-- When a put gives a block out, and which: told by what is held, and by when the blocks were last used.
+use Rattle.std.specs.Prelude.{◌≡◌, ℕ, suc, ◌%◌, ◌<◌, Bool, true, false, cond, ◌&&◌, List, [], ◌∷◌, length, is_some, Some, None, nat_eq, nat_le, ◌==◌, ◌≢◌}
+use Rattle.std.specs.List.{IsDistinct}
+use Rattle.std.specs.Set.{is_member}
 use Rattle.device.specs.Device.{after, reach}
 use Rattle.parts.specs.declared.mark.Mark.{Mark}
 use Rattle.parts.specs.declared.line.Line.{Line}
@@ -18,9 +20,18 @@ abbrev pub last_use : Bool → TierMeaning → List TierCall → ℕ → (ℕ �
 last_use renews m [] t before = before
 last_use renews m (c ∷ cs) t before = last_use renews (after m c) cs (suc t) (λ b. cond (uses renews m c b) t (before b))
 
--- the block that a put gives out is of the set of the block put, block n being of set n mod sets,
--- and every other block held in that set was used after it
-pub record OldestLeaves (renews : Bool) (sets : ℕ) (m : TierMeaning) : Type 0 where
+-- a put of block n gives a block out just where all ways of its set are taken, block n being of set n mod sets
+pub record LeavesWhenFull (sets ways : ℕ) (m : TierMeaning) (n : ℕ) : Type 0 where
+  -- the blocks of that set that are held, each once
+  pub blocks : List ℕ
+  pub held : (b : ℕ) → is_member nat_eq blocks b ≡ (is_some (look_of m b) && b % sets == n % sets)
+  pub once : IsDistinct nat_eq blocks
+  pub full : (k : Mark) (s : ℕ) → is_some (out_of m n k s) ≡ nat_le ways (length blocks)
+
+-- a put gives a block out just where its set is full; what it gives out is of that set, and every other block held there was
+-- used after it
+pub record OldestLeaves (renews : Bool) (sets ways : ℕ) (m : TierMeaning) : Type 0 where
+  pub when_full : (cs : List TierCall) (n : ℕ) → look_of (reach m cs) n ≡ None → LeavesWhenFull sets ways (reach m cs) n
   pub of_set : (cs : List TierCall) (n : ℕ) (k : Mark) (s : ℕ) (g : Line) → look_of (reach m cs) n ≡ None → out_of (reach m cs) n k s ≡ Some g → g.block % sets ≡ n % sets
   pub longest : (cs : List TierCall) (n : ℕ) (k : Mark) (s : ℕ) (g : Line) → look_of (reach m cs) n ≡ None → out_of (reach m cs) n k s ≡ Some g
       → (b : ℕ) → is_some (look_of (reach m cs) b) ≡ true → b % sets ≡ n % sets → (b ≢ g.block)

@@ -1,4 +1,5 @@
 pub mod Ranked
+pub mod Private
 pub mod Queue
 pub mod Ages
 pub mod RankedLaws

@@ -8,10 +8,11 @@ use Rattle.device.specs.Laws.{device_always}
 use Rattle.parts.specs.declared.mark.Mark.{Mark}
 use Rattle.parts.specs.declared.line.Line.{Line}
 use Rattle.parts.specs.Marks.{mark_number}
-use Rattle.tier.specs.Meaning.{TierCall, put, take, change, touch, clear, Holding, line, bare, TierLaws, Lawful}
+use Rattle.parts.specs.Lines.{shown_of}
+use Rattle.tier.specs.Meaning.{TierCall, put, take, change, touch, clear, Holding, line, if_held, bare, TierLaws, Lawful}
 use Rattle.tier.specs.Options.{never, none-some, some_of}
 use Rattle.tier.specs.Holdings.{mark_low}
-use Rattle.ranks.specs.Ranks.{Ranks, find, without, oldest, younger, spared, holding, ranked_view, if_found, touched, ranked_step, ranked, apart}
+use Rattle.ranks.specs.Ranks.{Ranks, find, without, oldest, younger, spared, ranked_view, touched, ranked_step, ranked, apart}
 use Rattle.ranks.proofs.RanksLemmas.{find-block, find-without, find-gone, without-none, apart-without, find-push, find-push-other, apart-push, find-renewed, find-renewed-other, renewed-none, apart-renewed, oldest_found, younger-gone, younger-rest, younger-none, apart-younger}
 
 abbrev pub Sound : Ranks → Type 0
@@ -20,21 +21,21 @@ Sound ls = apart ls ≡ true
 -- ---- what a look shows
 
 abbrev look : Ranks → ℕ → Option Holding
-look ls n = option_map holding (find ls n)
+look ls n = option_map shown_of (find ls n)
 
 pub look_none : (ls : Ranks) (n : ℕ) → look ls n ≡ None → find ls n ≡ None
 look_none ls n e = go (find ls n) refl e
   where
-    go : (o : Option Line) → find ls n ≡ o → option_map holding o ≡ None → find ls n ≡ None
+    go : (o : Option Line) → find ls n ≡ o → option_map shown_of o ≡ None → find ls n ≡ None
     go None p q = p
-    go (Some g) p q = never (holding g) (sym q)
+    go (Some g) p q = never (shown_of g) (sym q)
 
-pub look-some : (ls : Ranks) (n : ℕ) (h : Holding) → look ls n ≡ Some h → (g : Line) × (find ls n ≡ Some g) × (holding g ≡ h)
+pub look-some : (ls : Ranks) (n : ℕ) (h : Holding) → look ls n ≡ Some h → (g : Line) × (find ls n ≡ Some g) × (shown_of g ≡ h)
 look-some ls n h e = go (find ls n) refl e
   where
-    go : (o : Option Line) → find ls n ≡ o → option_map holding o ≡ Some h → (g : Line) × (find ls n ≡ Some g) × (holding g ≡ h)
+    go : (o : Option Line) → find ls n ≡ o → option_map shown_of o ≡ Some h → (g : Line) × (find ls n ≡ Some g) × (shown_of g ≡ h)
     go None p q = never h q
-    go (Some g) p q = (g, p, same_Some (holding g) h q)
+    go (Some g) p q = (g, p, same_Some (shown_of g) h q)
 
 -- ---- the lines that a put spares
 
@@ -65,9 +66,6 @@ oust-gone : (free : Bool) (ls : Ranks) (g : Line) → Sound ls → oust free ls 
 oust-gone true ls g a e = never g e
 oust-gone false ls g a e = younger-gone ls g a e
 
-pub spared-none : (ways : ℕ) (ls : Ranks) (n : ℕ) → find ls n ≡ None → find (spared ways ls) n ≡ None
-spared-none ways ls = spare-none (nat_lt (length ls) ways) ls
-
 module _ (renews : Bool) (ways : ℕ) (ls : Ranks) (ok : Sound ls) where
   abbrev free : Bool
   free = nat_lt (length ls) ways
@@ -75,7 +73,7 @@ module _ (renews : Bool) (ways : ℕ) (ls : Ranks) (ok : Sound ls) where
   pub keeps : (c : TierCall) → Sound (ranked_step renews ways ls c)
   keeps (put n k s) = go (find ls n) refl
     where
-      go : (o : Option Line) → find ls n ≡ o → Sound (if_found o ls (spared ways ls ++ line n k s ∷ []))
+      go : (o : Option Line) → find ls n ≡ o → Sound (if_held o ls (spared ways ls ++ line n k s ∷ []))
       go None e = apart-push (spared ways ls) (line n k s) (spare-apart free ls ok) (spare-none free ls n e)
       go (Some g) e = ok
   keeps (take n) = apart-without ls n ok
@@ -89,10 +87,10 @@ module _ (renews : Bool) (ways : ℕ) (ls : Ranks) (ok : Sound ls) where
   keeps clear = refl
 
   put_next : (n : ℕ) (k : Mark) (s : ℕ) → find ls n ≡ None → ranked_step renews ways ls (put n k s) ≡ spared ways ls ++ line n k s ∷ []
-  put_next n k s e = ap (λ o. if_found o ls (spared ways ls ++ line n k s ∷ [])) e
+  put_next n k s e = ap (λ o. if_held o ls (spared ways ls ++ line n k s ∷ [])) e
 
   put_other : (n : ℕ) (k : Mark) (s b : ℕ) → find ls n ≡ None → (b ≢ n) → look (ranked_step renews ways ls (put n k s)) b ≡ look (spared ways ls) b
-  put_other n k s b e ne = ap (λ ms. look ms b) (put_next n k s e) ∙ ap (option_map holding) (find-push-other (spared ways ls) (line n k s) b ne)
+  put_other n k s b e ne = ap (λ ms. look ms b) (put_next n k s e) ∙ ap (option_map shown_of) (find-push-other (spared ways ls) (line n k s) b ne)
 
   touch_look : (n b : ℕ) → look (ranked_step renews ways ls (touch n)) b ≡ look ls b
   touch_look n b = go renews (find ls n) refl
@@ -103,8 +101,8 @@ module _ (renews : Bool) (ways : ℕ) (ls : Ranks) (ok : Sound ls) where
       go true (Some g) e =
           let q = find-block ls n g e in
           elim (ℕ_discrete b n) [
-            | yes h ↦ ap (option_map holding) (ap (find (without ls n ++ g ∷ [])) (h ∙ sym q) ∙ find-push (without ls n) g (ap (find (without ls n)) q ∙ find-gone ls n ok) ∙ sym (ap (find ls) h ∙ e))
-            | no h ↦ ap (option_map holding) (find-push-other (without ls n) g b (λ z. h (z ∙ q)) ∙ find-without ls n b h)
+            | yes h ↦ ap (option_map shown_of) (ap (find (without ls n ++ g ∷ [])) (h ∙ sym q) ∙ find-push (without ls n) g (ap (find (without ls n)) q ∙ find-gone ls n ok) ∙ sym (ap (find ls) h ∙ e))
+            | no h ↦ ap (option_map shown_of) (find-push-other (without ls n) g b (λ z. h (z ∙ q)) ∙ find-without ls n b h)
           ]
 
   touch_free : (n : ℕ) → find ls n ≡ None → ranked_step renews ways ls (touch n) ≡ ls
@@ -122,25 +120,25 @@ module _ (renews : Bool) (ways : ℕ) (ls : Ranks) (ok : Sound ls) where
     levels = λ n h e. let r = look-some ls n h e in let q : 1 ≡ h.2 = ap (λ (x : Holding). x.2) r.2 in (omega arith, omega arith);
     put_in = λ n k s e.
         let f = look_none ls n e in
-        ap (λ ms. look ms n) (put_next n k s f) ∙ ap (option_map holding) (find-push (spared ways ls) (line n k s) (spare-none free ls n f));
-    put_rest = λ n k s b e ne no-out. ap bare (put_other n k s b (look_none ls n e) ne ∙ ap (option_map holding) (spare-rest free ls b no-out));
-    out_held = λ n k s g e o. ap (λ x. bare (option_map holding x)) (oust_found free ls g o);
+        ap (λ ms. look ms n) (put_next n k s f) ∙ ap (option_map shown_of) (find-push (spared ways ls) (line n k s) (spare-none free ls n f));
+    put_rest = λ n k s b e ne no-out. ap bare (put_other n k s b (look_none ls n e) ne ∙ ap (option_map shown_of) (spare-rest free ls b no-out));
+    out_held = λ n k s g e o. ap (λ x. bare (option_map shown_of x)) (oust_found free ls g o);
     out_gone = λ n k s g e o.
         let f = look_none ls n e in
         let ne : g.block ≡ n → ⊥ = λ q. none-some (find ls n) g f (ap (find ls) (sym q) ∙ oust_found free ls g o) in
-        put_other n k s g.block f ne ∙ ap (option_map holding) (oust-gone free ls g ok o);
-    take_gone = λ n. ap (option_map holding) (find-gone ls n ok);
-    take_rest = λ n b ne. ap (option_map holding) (find-without ls n b ne);
+        put_other n k s g.block f ne ∙ ap (option_map shown_of) (oust-gone free ls g ok o);
+    take_gone = λ n. ap (option_map shown_of) (find-gone ls n ok);
+    take_rest = λ n b ne. ap (option_map shown_of) (find-without ls n b ne);
     change_in = λ n k s h e.
         let r = look-some ls n h e in
-        ap (option_map holding) (find-renewed ls (line n k s) r.0 r.1) ∙ ap (λ (x : Holding). Some (mark_number k, s, x.2)) r.2;
-    change_rest = λ n k s b ne. ap (option_map holding) (find-renewed-other ls (line n k s) b ne);
+        ap (option_map shown_of) (find-renewed ls (line n k s) r.0 r.1) ∙ ap (λ (x : Holding). Some (mark_number k, s, x.2)) r.2;
+    change_rest = λ n k s b ne. ap (option_map shown_of) (find-renewed-other ls (line n k s) b ne);
     touch_look = touch_look;
     clear_gone = λ n. refl;
     put_held = λ n k s h.
         let x = some_of (look ls n) h in
         let r = look-some ls n x.0 x.1 in
-        ap (ranked renews ways) (ap (λ o. if_found o ls (spared ways ls ++ line n k s ∷ [])) r.1);
+        ap (ranked renews ways) (ap (λ o. if_held o ls (spared ways ls ++ line n k s ∷ [])) r.1);
     take_free = λ n e. ap (ranked renews ways) (sym (without-none ls n (look_none ls n e)));
     change_free = λ n k s e. ap (ranked renews ways) (renewed-none ls (line n k s) (look_none ls n e));
     touch_free = λ n e. ap (ranked renews ways) (touch_free n (look_none ls n e));

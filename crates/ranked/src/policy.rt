@@ -1,7 +1,6 @@
 //! Replacement policies: which use of a block makes it the youngest.
 ghost use Rattle.std.specs.Prelude.{◌≡◌, Bool, true, false};
 
-// A trait and not a constant parameter: the policies have the field's names, and one may decide by what it holds.
 pub trait Replacement {
     /// Whether a touch makes a block the youngest, as a put does.
     ghost renewing: { Self → Bool };

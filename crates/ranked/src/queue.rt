@@ -1,5 +1,5 @@
 //! The queue: a tier of a few lines that gives out the block that was put longest ago.
-ghost use Rattle.std.specs.Prelude.{Bool, false, IfOk};
+ghost use Rattle.std.specs.Prelude.{false, IfOk};
 ghost use Rattle.tier.specs.Building.{Builds};
 ghost use Rattle.ranks.specs.Ranks.{built};
 ghost use Rattle.ranked.specs.Queue.{queue_of};
@@ -16,14 +16,7 @@ impl Ranked<Fifo> {
     /// An empty queue of 1 to 16 lines.
     pub fn new(heap: Global, lines: usize) -> Result<Queue, BuildError<Queue>>
         ensures built { Builds queue_of result (built false lines) }
-        ensures law { IfOk result (λ q. OldestLeaves false 1 (queue_of q)) }
-    {
-        Queue::sized(heap, lines)
-    }
-
-    // The code apart from the law of whole runs, so that an edit of it is refused for its own sake.
-    fn sized(heap: Global, lines: usize) -> Result<Queue, BuildError<Queue>>
-        ensures { Builds queue_of result (built false lines) }
+        ensures law { IfOk result (λ q. OldestLeaves false 1 lines (queue_of q)) }
     {
         Ranked::with_policy(heap, Fifo, lines)
     }

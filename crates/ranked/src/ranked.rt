@@ -2,6 +2,7 @@
 ghost use Rattle.std.specs.Prelude.{◌≡◌, ◌<◌, ◌≤◌, true, [], ◌∷◌, ◌++◌, IfOk, None, vec_len, vec_capacity};
 ghost use Rattle.tier.specs.Building.{Builds};
 ghost use Rattle.ranks.specs.Ranks.{find, without, ousted, spared, ranked, built, apart};
+ghost use Rattle.ranked.specs.Ages.{OldestLeaves};
 
 use crate::policy::Replacement;
 use parts::line::Line;
@@ -25,14 +26,24 @@ pub struct Ranked<P> {
 }
 
 impl<P: Replacement + Drop> Ranked<P> {
-    ghost use Rattle.ranked.specs.Ranked.{ranked_of, Alike, Place};
+    ghost use Rattle.ranked.specs.Ranked.{ranked_of};
+    ghost use Rattle.ranked.specs.Private.{Alike, Place};
 
-    /// An empty tier of 1 to 16 ways.
+    /// An empty tier of 1 to 16 ways. A put into a full tier gives out the block that was put, or by some policies touched,
+    /// longest ago.
     pub fn with_policy(
         heap: Global,
         policy: P,
         ways: usize,
     ) -> Result<Ranked<P>, BuildError<Ranked<P>>>
+        ensures built { Builds (ranked_of P.Replacement.renewing) result (built (P.Replacement.renewing policy) ways) }
+        ensures law { IfOk result (λ t. OldestLeaves (P.Replacement.renewing policy) 1 ways (ranked_of P.Replacement.renewing t)) }
+    {
+        Ranked::sized(heap, policy, ways)
+    }
+
+    // The code apart from the law of whole runs, so that an edit of it is refused for its own sake.
+    fn sized(heap: Global, policy: P, ways: usize) -> Result<Ranked<P>, BuildError<Ranked<P>>>
         ensures { Builds (ranked_of P.Replacement.renewing) result (built (P.Replacement.renewing policy) ways) }
     {
         let fits = (1..=MOST_WAYS).contains(&ways);

@@ -3,7 +3,8 @@ use Rattle.std.specs.Prelude.{◌≡◌, ℕ, true, cond, [], ◌∷◌, ◌++�
 use Rattle.std.proofs.Common.{ap, arith, eq-eqb}
 use Rattle.std.proofs.lemmas.Bool.Decides.{nat_tests}
 use Rattle.parts.specs.declared.line.Line.{Line}
-use Rattle.tier.specs.Options.{never, not_some}
+use Rattle.tier.specs.Options.{never}
+use Rattle.tier.proofs.Options.{not_some}
 use Rattle.ranks.specs.Ranks.{Ranks, find, without, renewed, oldest, younger, apart}
 
 pub find-block : (ls : Ranks) (n : ℕ) (g : Line) → find ls n ≡ Some g → g.block ≡ n

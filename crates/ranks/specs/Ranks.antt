@@ -6,12 +6,13 @@ use Rattle.parts.specs.declared.line.Line.{Line}
 use Rattle.parts.specs.declared.refusal.BuildError.{BuildError}
 use Rattle.tier.specs.Building.{within, in_range_else}
 use Rattle.parts.specs.Lines.{shown_of}
-use Rattle.tier.specs.Meaning.{TierMeaning, TierView, TierCall, put, take, change, touch, clear, Holding, line}
+use Rattle.tier.specs.Meaning.{TierMeaning, TierView, TierCall, put, take, change, touch, clear, line, if_held}
 
 -- the lines that hold a block, the oldest first
 abbrev pub Ranks : Type 0
 Ranks = List Line
 
+-- the line of block n, and the lines without it
 abbrev pub find : Ranks → ℕ → Option Line
 find [] n = None
 find (g ∷ gs) n = cond (g.block == n) (Some g) (find gs n)
@@ -40,15 +41,9 @@ ousted ways ls = cond (nat_lt (length ls) ways) None (oldest ls)
 abbrev pub spared : ℕ → Ranks → Ranks
 spared ways ls = cond (nat_lt (length ls) ways) ls (younger ls)
 
-abbrev pub holding : Line → Holding
-holding = shown_of
-
+-- what is shown of the lines
 abbrev pub ranked_view : ℕ → Ranks → TierView
-ranked_view ways ls = record { look = λ n. option_map holding (find ls n); out = λ n k s. ousted ways ls }
-
-abbrev pub if_found : Option Line → Ranks → Ranks → Ranks
-if_found None x y = y
-if_found (Some g) x y = x
+ranked_view ways ls = record { look = λ n. option_map shown_of (find ls n); out = λ n k s. ousted ways ls }
 
 -- a touch makes a block the youngest, where touches count
 abbrev pub touched : Bool → Ranks → ℕ → Option Line → Ranks
@@ -57,7 +52,7 @@ touched true ls n None = ls
 touched true ls n (Some g) = without ls n ++ g ∷ []
 
 abbrev pub ranked_step : Bool → ℕ → Ranks → TierCall → Ranks
-ranked_step renews ways ls (put n k s) = if_found (find ls n) ls (spared ways ls ++ line n k s ∷ [])
+ranked_step renews ways ls (put n k s) = if_held (find ls n) ls (spared ways ls ++ line n k s ∷ [])
 ranked_step renews ways ls (take n) = without ls n
 ranked_step renews ways ls (change n k s) = renewed ls (line n k s)
 ranked_step renews ways ls (touch n) = touched renews ls n (find ls n)

@@ -1,3 +1,4 @@
+pub mod Options
 pub mod Holds
 pub mod Builds
 pub mod Moves

@@ -3,15 +3,16 @@ use Rattle.std.proofs.Common.{◌≡◌, ℕ, true, List, [], ◌∷◌, ◌++�
 use native.Mathlib.Decide.{ℕ_discrete}
 use Rattle.std.specs.Option.{option_map}
 use Rattle.std.proofs.lemmas.Option.{same_Some}
-use Rattle.device.specs.Device.{after, reach, run}
-use Rattle.device.specs.Laws.{device-after, reach-more}
+use Rattle.device.specs.Device.{Device, after, reach, run}
+use Rattle.device.specs.Laws.{device-after}
 use Rattle.parts.specs.declared.mark.Mark.{Mark}
 use Rattle.parts.specs.declared.line.Line.{Line}
 use Rattle.tier.specs.Meaning.{TierMeaning, TierCall, put, take, change, touch, clear, Holding, depth_of, look_of, out_of, if_held, bare, Lawful}
 use Rattle.tier.specs.Pile.{Parts, parts, first, pile_look, sink, pile_view, to_shown, pile_step, pile_depth, pile}
 use Rattle.tier.specs.Stacked.{Stacked, StaysStacked}
-use Rattle.tier.specs.Options.{never, is_some_lem, some_of, not_some}
+use Rattle.tier.specs.Options.{never, is_some_lem, some_of}
 use Rattle.tier.specs.Holdings.{bare-none, bare-held}
+use Rattle.tier.proofs.Options.{not_some}
 use Rattle.tier.proofs.Holds.{SameBlocks, change-same, touch-same}
 use Rattle.tier.specs.PileLaws.{block, both_none, stays, at, Sound, keeps, fu, upper-same, lower-same, away-held}
 
@@ -89,6 +90,11 @@ module _ (p : Parts) (ok : Sound p) (apart : Apart p) where
   apart-step (change n k s) = apart-shown n (change n k s) (change-same u ok.0 n k s) (change-same l ok.1 n k s)
   apart-step (touch n) = apart-shown n (touch n) (touch-same u ok.0 n) (touch-same l ok.1 n)
   apart-step clear = λ b h. (ok.1 []).clear_gone b
+
+-- one call after a list of calls
+reach-more : {K C V : Type 0} (d : Device K C V) (cs : List C) (c : C) → reach d (cs ++ c ∷ []) ≡ after (reach d cs) c
+reach-more d [] c = refl
+reach-more d (b ∷ cs) c = reach-more (after d b) cs c
 
 -- the parts of a pile that was made of u and l, after some calls
 record Made (u l : TierMeaning) (p : Parts) : Type 0 where

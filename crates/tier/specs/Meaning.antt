@@ -1,4 +1,5 @@
--- What a tier is: its depth, and what it shows after any list of calls. And its laws.
+-- A tier: what one core holds of main memory, in one cache level or several. What it is: its depth, the number of its levels,
+-- and what it shows after any list of calls. And its laws.
 use Rattle.std.specs.Prelude.{◌≡◌, ℕ, ◌≤◌, true, is_some, Some, None, Ok, Err, Option, Result, ◌≢◌}
 use Rattle.std.specs.Option.{option_map}
 use Rattle.device.specs.Device.{Device, after, seen, Always}
@@ -8,7 +9,8 @@ use Rattle.parts.specs.declared.refusal.Refusal.{Refusal}
 use Rattle.parts.specs.declared.refusal.Refusal.TheVariants.{AlreadyHeld, NotHeld}
 use Rattle.parts.specs.Marks.{mark_number}
 
--- the calls that may alter something
+-- the calls that may alter something, of a block, a mark and a stamp: to hold a block, to free it, to give a held block another
+-- mark and stamp, to tell that a held block was used, and to free every block
 pub data TierCall : Type 0 where
   put : ℕ → Mark → ℕ → TierCall
   take : ℕ → TierCall
@@ -16,7 +18,8 @@ pub data TierCall : Type 0 where
   touch : ℕ → TierCall
   clear : TierCall
 
--- what is shown of a held block: the number of its mark, its stamp and its level
+-- what is shown of a held block: the number of its mark, its stamp (the number of the write that the copy shows) and its level
+-- (1 is the one next to the core)
 abbrev pub Holding : Type 0
 Holding = ℕ × ℕ × ℕ
 
@@ -42,7 +45,7 @@ abbrev pub line : ℕ → Mark → ℕ → Line
 line n k s = record { block = n; mark = k; stamp = s }
 
 -- x where the block is held, else y
-abbrev pub if_held : {X : Type 0} → Option Holding → X → X → X
+abbrev pub if_held : {H X : Type 0} → Option H → X → X → X
 if_held None x y = y
 if_held (Some h) x y = x
 

@@ -1,5 +1,5 @@
 -- Cases of an option.
-use Rattle.std.specs.Prelude.{◌≡◌, ℕ, true, false, is_some, Some, None, Option, refl}
+use Rattle.std.specs.Prelude.{◌≡◌, ℕ, true, is_some, Some, None, Option, refl}
 use Rattle.std.proofs.Common.{ap, arith}
 
 module _ {X : Type 0} where
@@ -15,7 +15,3 @@ module _ {X : Type 0} where
   pub some_of : (o : Option X) → is_some o ≡ true → (x : X) × (o ≡ Some x)
   some_of None h = let z : ◌≡◌ {A = ℕ} 0 1 = cc in absurd (omega arith)
   some_of (Some x) h = (x, refl)
-
-  pub not_some : (o : Option X) → is_some o ≡ false → o ≡ None
-  not_some None h = refl
-  not_some (Some x) h = let z : ◌≡◌ {A = ℕ} 0 1 = cc in absurd (omega arith)

@@ -1,4 +1,4 @@
--- A tier on a tier.
+-- A pile: two tiers as one, the upper on the lower, next to the core. A line that leaves the upper sinks into the lower.
 use Rattle.std.specs.Prelude.{ℕ, ◌+◌, min, Some, None, Option}
 use Rattle.device.specs.Device.{after, device}
 use Rattle.parts.specs.declared.mark.Mark.{Mark}

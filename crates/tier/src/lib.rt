@@ -19,8 +19,7 @@ pub trait Tier {
         ensures { result ≡ depth_of (meaning self.now) };
 
     /// The mark (shared 0, modified 1), the stamp and the level of a held block.
-    // A tuple of plain numbers, by a rule of the project: bringing up takes it apart (docs/DECISIONS.md). They are of one width,
-    // so no padding is copied with them.
+    // Plain numbers of one width: bringing up takes them apart, and no padding is copied with them.
     fn look(&self, block: u16) -> Option<(u32, u32, u32)>
         ensures { result ≡ look_of (meaning self.now) block };
 

@@ -18,18 +18,20 @@ pub struct Pile<U, L> {
 }
 
 impl<U: Tier, L: Tier> Pile<U, L> {
+    ghost use Rattle.tier.specs.Piled.{pile_of};
+
     /// The two tiers, cleared, one on the other. From then on the pile holds what the upper holds and, of the rest, what the
     /// lower holds.
     pub fn new(upper: U, lower: L) -> Pile<U, L>
-        ensures cleared { pile (U.Tier.meaning result.upper) (L.Tier.meaning result.lower) ≡ pile (after (U.Tier.meaning upper) clear) (after (L.Tier.meaning lower) clear) }
-        ensures stacked { StaysStacked (pile (U.Tier.meaning result.upper) (L.Tier.meaning result.lower)) (after (U.Tier.meaning upper) clear) (after (L.Tier.meaning lower) clear) }
+        ensures cleared { pile_of U.Tier.meaning L.Tier.meaning result ≡ pile (after (U.Tier.meaning upper) clear) (after (L.Tier.meaning lower) clear) }
+        ensures stacked { StaysStacked (pile_of U.Tier.meaning L.Tier.meaning result) (after (U.Tier.meaning upper) clear) (after (L.Tier.meaning lower) clear) }
     {
         Pile::stack(upper, lower)
     }
 
     // The code apart from the law of whole runs, so that an edit of it is refused for its own sake.
     fn stack(mut upper: U, mut lower: L) -> Pile<U, L>
-        ensures { pile (U.Tier.meaning result.upper) (L.Tier.meaning result.lower) ≡ pile (after (U.Tier.meaning upper) clear) (after (L.Tier.meaning lower) clear) }
+        ensures { pile_of U.Tier.meaning L.Tier.meaning result ≡ pile (after (U.Tier.meaning upper) clear) (after (L.Tier.meaning lower) clear) }
     {
         upper.clear();
         lower.clear();
@@ -59,7 +61,9 @@ fn sink_into<L: Tier>(lower: &mut L, line: Line) -> Option<Line>
 }
 
 impl<U: Tier, L: Tier> Tier for Pile<U, L> {
-    ghost meaning = { λ p. pile (U.Tier.meaning p.upper) (L.Tier.meaning p.lower) };
+    ghost use Rattle.tier.specs.Piled.{pile_of};
+
+    ghost meaning = { pile_of U.Tier.meaning L.Tier.meaning };
 
     ghost lawful = { λ t. pile-lawful _ _ (U.Tier.lawful t.upper) (L.Tier.lawful t.lower) };
 

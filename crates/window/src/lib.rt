@@ -18,11 +18,9 @@ pub struct Window<M> {
 }
 
 impl<M: Memory> Window<M> {
-    // Start and length stand apart as a caller names them: kept together, they are this window.
     /// The `length` blocks of `below` from `start` on, or as many of them as there are.
     pub fn new(below: M, start: u32, length: u32) -> Window<M>
-        ensures parts { (result.below ≡ below) × (result.start ≡ start) × (result.length ≡ length) }
-        ensures meaning { window result.start result.length (M.Memory.meaning result.below) ≡ window start length (M.Memory.meaning below) }
+        ensures { (result.below ≡ below) × (result.start ≡ start) × (result.length ≡ length) }
     {
         Self {
             below,
@@ -44,7 +42,7 @@ impl<M: Memory> Window<M> {
         ensures { result ≡ (if nat_lt block (window_size self.now.start self.now.length (M.Memory.meaning self.now.below)) then Ok (self.now.start + block) else Err NoSuchBlock) }
     {
         if u32::from(block) < self.size() {
-            // `as` is proved to lose nothing: `try_from` would bring an error that cannot come
+            // `as` loses nothing: proved
             Ok((self.start + u32::from(block)) as u16)
         } else {
             Err(Refusal::NoSuchBlock)
@@ -69,7 +67,7 @@ impl<M: Memory> Memory for Window<M> {
     }
 
     fn store(&mut self, block: u16, stamp: u32) -> Result<(), Refusal> {
-        // named first: the check does not cover a use of `self` among the arguments of a call that writes `self.below`
+        // a name of its own, since the check takes no use of `self` among the arguments of a call that writes `self.below`
         let found = self.block_below(block)?;
         self.below.store(found, stamp)
     }

@@ -3,7 +3,7 @@ use Rattle.device.specs.Device.{Always}
 use Rattle.tier.proofs.Builds.{builds_made, within_low}
 use Rattle.direct.specs.Direct.{direct_of}
 use Rattle.direct.specs.Mapped.{DirectMapped}
-use Rattle.direct.specs.DirectLaws.{direct_mapped}
+use Rattle.direct.proofs.Mapped.{direct_mapped}
 use Rattle.direct.proofs.direct.Direct.new.Goals as goal
 
 pub returns-clause-law : goal.returns-clause-law

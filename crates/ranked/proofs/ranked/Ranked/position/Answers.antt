@@ -2,7 +2,7 @@
 use Rattle.std.proofs.Common.{sym, subst, rules, tests}
 use Rattle.std.proofs.lemmas.Iterator.{YieldsList-from_slice}
 use Rattle.std.proofs.lemmas.Iterator.Search.{position_from_yields_List}
-use Rattle.ranked.specs.Ranked.{Place}
+use Rattle.ranked.specs.Private.{Place}
 use Rattle.ranked.proofs.Places.{has, first_place}
 use Rattle.ranked.proofs.ranked.Ranked.position.Goals as goal
 

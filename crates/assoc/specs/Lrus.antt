@@ -1,4 +1,4 @@
--- What the sets of the code mean, and that they are good.
+-- The sets of the code, each of least recent use: they are good, and what a call of one comes to.
 use Rattle.std.specs.Prelude.{ℕ, zero, suc, ◌<◌, true, List, [], ◌∷◌, length, vec_items}
 use Rattle.std.proofs.Common.{arith}
 use Rattle.std.proofs.lemmas.List.{length-map, map-set, get_or-map}
