@@ -48,7 +48,6 @@ record Fair (r : RunMeaning) (o : Outcome) : Type 0 where
   cost : Costs r.prices o.answer o.charge
   cheap : Affordable r.prices → o.charge ≤ 2000 * says is_accepted o
   few : r.tally.steps ≤ 1000000 → o.run.tally.steps ≤ 1000000
-  same : is_accepted (word_of o.answer) ≡ false → o.run ≡ r
 
 -- what a call is charged for its two movements is what its answer costs
 leaver_cost : (w : Prices) (x : Bool) → price w (cond x Memory Still) ≡ if_left w x
@@ -99,7 +98,6 @@ module _ (r : RunMeaning) where
     cost = refl;
     cheap = λ h. omega arith;
     few = λ h. h;
-    same = λ h. refl;
   }
 
   fair-accepted : r.tally.steps < 1000000 → (cs : List CoreMeaning) (m : MemoryMeaning) → Unit {0}
@@ -116,11 +114,7 @@ module _ (r : RunMeaning) where
         cost = moved_cost r.prices a b x moved;
         cheap = λ h. omega (arith, priced r.prices h a, priced r.prices h b);
         few = λ h. omega arith;
-        same = λ h. absurd (true_false (sym word.0 ∙ h));
       }
-    where
-      true_false : true ≡ false → ⊥
-      true_false e = let z : ◌≡◌ {A = ℕ} 0 1 = cc in omega arith
 
   fair-step : (k : Call) → Fair r (step r k)
   fair-step = of_step (λ _. Unit {0}) (λ m c h. tt) r tt (Fair r) fair-refused fair-accepted
@@ -188,5 +182,4 @@ reported cs m w ok ks =
       charges = λ k. omega (arith, (fair-step end k).cheap (subst Affordable (sym all.prices) ok), one-most (is_accepted (word_of (step end k).answer)));
       most_steps = all.few (omega arith);
       most_total = omega (arith, all.total, all.steps, all.cheap ok);
-      refused = λ k. (fair-step end k).same;
     }

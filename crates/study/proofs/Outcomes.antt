@@ -21,12 +21,12 @@ use Rattle.protocol.specs.declared.weights.Movement.{Movement}
 use Rattle.protocol.specs.declared.weights.Movement.TheVariants.{Still, FromLevel, Memory}
 use Rattle.protocol.specs.Accesses.{block_of}
 use Rattle.protocol.specs.Calls.{core_of, fits_in}
-use Rattle.moves.specs.Moves.{put_back_out}
+use Rattle.moves.specs.Moves.{is_modified, put_back_out}
 use Rattle.row.specs.Cores.{CoreMeaning, count_of, tier_at, state_at, met, awaited}
 use Rattle.study.specs.declared.effect.Performed.{Performed}
 use Rattle.study.specs.declared.effect.Performed.TheVariants.{Nothing, Read as ARead, Write as AWrite}
 use Rattle.study.specs.Run.{RunMeaning, Outcome}
-use Rattle.study.specs.Step.{valid, left_as, left, leaving_as, leaving, accepted, refused, provided, brought_up, pushed_out, recalled, alone_memory, is_modified, access_by, access, fetched_line, fetch_by, owed, flush_by, commit_by, act, step}
+use Rattle.study.specs.Step.{valid, left_as, left, leaving_as, leaving, accepted, refused, provided, brought_up, pushed_out, recalled, alone_memory, access_by, access, fetched_line, fetch_by, owed, flush_by, commit_by, act, step}
 
 -- what was performed, by the answer
 abbrev pub performed_by : Answer → Performed

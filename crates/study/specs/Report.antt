@@ -5,7 +5,6 @@ use Rattle.protocol.specs.declared.answer.Answer.TheVariants.{Waits, Brought, Re
 use Rattle.protocol.specs.declared.call.Call.{Call}
 use Rattle.protocol.specs.declared.refusal.Refusal.{Refusal}
 use Rattle.protocol.specs.declared.weights.Prices.{Prices}
-use Rattle.protocol.specs.Answers.{word_of}
 use Rattle.protocol.specs.Prices.{level_price}
 use Rattle.study.specs.declared.turn.Played.{Played}
 use Rattle.study.specs.declared.turn.Turn.{Turn}
@@ -63,5 +62,3 @@ pub record Reported (r : RunMeaning) (ks : List Call) : Type 0 where
   pub charges : (k : Call) → (step (played r ks) k).charge ≤ 2000
   pub most_steps : (played r ks).tally.steps ≤ 1000000
   pub most_total : (played r ks).tally.total ≤ 2000 * (played r ks).tally.steps
-  -- a refused call leaves the run as it was
-  pub refused : (k : Call) → is_accepted (word_of (step (played r ks) k).answer) ≡ false → (step (played r ks) k).run ≡ played r ks

@@ -1,10 +1,9 @@
 -- One step of a run.
-use Rattle.std.specs.Prelude.{ℕ, ◌+◌, Bool, true, false, List, Some, None, Ok, Err, Option, Result, ◌==◌, nat_lt}
+use Rattle.std.specs.Prelude.{ℕ, ◌+◌, Bool, true, false, List, Some, None, Ok, Err, Option, Result, nat_lt}
 use Rattle.device.specs.Device.{after}
 use Rattle.parts.specs.declared.mark.Mark.{Mark}
 use Rattle.parts.specs.declared.mark.Mark.TheVariants.{Shared, Modified}
 use Rattle.parts.specs.declared.line.Line.{Line}
-use Rattle.parts.specs.Marks.{mark_number}
 use Rattle.tier.specs.Meaning.{Holding, look_of, line}
 use Rattle.memory.specs.declared.refusal.Refusal.{Refusal as MemoryRefusal}
 use Rattle.memory.specs.Meaning.{MemoryMeaning, store, stale, size_of, asked}
@@ -24,7 +23,7 @@ use Rattle.protocol.specs.Accesses.{block_of}
 use Rattle.protocol.specs.Calls.{core_of, fits_in}
 use Rattle.protocol.specs.declared.weights.Prices.{Prices}
 use Rattle.protocol.specs.Prices.{price}
-use Rattle.moves.specs.Moves.{modified_stamp}
+use Rattle.moves.specs.Moves.{is_modified, modified_stamp}
 use Rattle.row.specs.declared.operation.Operation.TheVariants.{BringUp, Put, Change}
 use Rattle.row.specs.Cores.{CoreMeaning, count_of, tier_at, state_at, turned, operated_out, done, invalidated, met, awaited}
 use Rattle.study.specs.declared.effect.Performed.{Performed}
@@ -100,9 +99,6 @@ recalled n (Some s) m = after m (store n s)
 abbrev pub alone_memory : Bool → ℕ → ℕ → List CoreMeaning → MemoryMeaning → MemoryMeaning
 alone_memory true c n cs m = m
 alone_memory false c n cs m = after (recalled n (met 0 c n cs) m) (stale n)
-
-abbrev pub is_modified : Holding → Bool
-is_modified h = h.0 == mark_number Modified
 
 -- core c writes block n, which it holds so; a modified copy has no other
 abbrev pub writing : RunMeaning → ℕ → ℕ → Holding → Outcome
