@@ -25,7 +25,7 @@ use Rattle.moves.proofs.Raising.{mark_of_number, raised_look}
 use Rattle.row.specs.declared.operation.Operation.TheVariants.{BringUp, Change as ToChange}
 use Rattle.row.specs.Cores.{CoreMeaning, core, core_at, tier_at, state_at, done}
 use Rattle.study.specs.Run.{RunMeaning, Outcome}
-use Rattle.study.specs.Step.{valid, left, waiting, brought_up, reading, alone_cores, alone_memory, writing, access_by, access}
+use Rattle.study.specs.Step.{valid, memory_taking, waiting, brought_up, reading, alone_cores, alone_memory, writing, access_by, access}
 use Rattle.study.specs.Book.{Book, asking, heard, entered, may_write, noted, Honest}
 use Rattle.study.specs.Coherence.{copy_of}
 use Rattle.study.specs.Told.{Asks, Told}
@@ -144,7 +144,7 @@ module _ (r : RunMeaning) (b : Book) (k : Call) (S : Sound r.cores r.memory b.nu
     cs₁ = brought_up r c n h
 
     abbrev m₁ : MemoryMeaning
-    m₁ = left out m
+    m₁ = memory_taking out m
 
     up : Raised t t₁ out n (h.0, h.1)
     up = raises t ok n h e

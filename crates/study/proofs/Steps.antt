@@ -25,8 +25,8 @@ use Rattle.protocol.specs.Calls.{core_of, fits_in}
 use Rattle.moves.specs.Moves.{given, modified_stamp}
 use Rattle.row.specs.declared.operation.Operation.TheVariants.{Put, Change as ToChange}
 use Rattle.row.specs.Cores.{CoreMeaning, core, count_of, core_at, tier_at, state_at, done, awaited}
-use Rattle.study.specs.Run.{RunMeaning, Outcome}
-use Rattle.study.specs.Step.{valid, left, refused, provided, access, fetching, fetch_by, fetch, cleaning, owed, flush_by, flush, commit_by, commit, act, step}
+use Rattle.study.specs.Run.{RunMeaning, Outcome, most_steps}
+use Rattle.study.specs.Step.{valid, memory_taking, refused, provided, access, fetching, fetch_by, fetch, cleaning, modified_at, flush_by, flush, commit_by, commit, act, step}
 use Rattle.study.specs.Book.{Book, but, asking}
 use Rattle.study.specs.Coherence.{copy_of}
 use Rattle.study.specs.Told.{Asks, NowClean}
@@ -109,7 +109,7 @@ module _ (r : RunMeaning) (b : Book) (I : Inv r b) where
       free : look_of t n ≡ None
       free = bare-none (look_of t n) stands.2
 
-      joins : (j : ℕ) → Change (copy_of cs c j) (held (after t (put n Shared s)) j) (valid m j) (valid (left out m) j)
+      joins : (j : ℕ) → Change (copy_of cs c j) (held (after t (put n Shared s)) j) (valid m j) (valid (memory_taking out m) j)
       joins j = elim (ℕ_discrete j n) [
         | yes q ↦ rw q (joined s v (put_holds t ok n Shared s free) (left-others m S.memory out n (put-stays t ok n Shared s free)))
         | no ne ↦ left-change m S.memory t _ out j (inside cs m b.number S c) (put-passes t ok n Shared s free j ne)
@@ -193,17 +193,17 @@ module _ (r : RunMeaning) (b : Book) (I : Inv r b) where
           less j z = change-others t ok n Shared s j (λ q. none-some (held t n) (modified s) (sym (ap (held t) q) ∙ z) e) ∙ z
 
     flush-good : (n : ℕ) → Good r b (Flush c n) (flush r c n)
-    flush-good n = go (owed r c n) refl
+    flush-good n = go (modified_at r c n) refl
       where
-        go : (o : Option ℕ) → owed r c n ≡ o → Good r b (Flush c n) (flush_by r c n o)
+        go : (o : Option ℕ) → modified_at r c n ≡ o → Good r b (Flush c n) (flush_by r c n o)
         go None e = refused-good (Flush c n) NotOwed
         go (Some s) e = provided-good (Flush c n) (awaited 0 c n cs) NotOwed _
             (λ x. record { inv = cleaning-keeps n s (owed_held _ s e) (Flushed n); told = (refl, cleaned n s (owed_held _ s e) (Flushed n)); honest = silent })
 
     commit-good : (n : ℕ) → Good r b (Commit c n) (commit r c n)
-    commit-good n = go (owed r c n) refl
+    commit-good n = go (modified_at r c n) refl
       where
-        go : (o : Option ℕ) → owed r c n ≡ o → Good r b (Commit c n) (commit_by r c n o)
+        go : (o : Option ℕ) → modified_at r c n ≡ o → Good r b (Commit c n) (commit_by r c n o)
         go None e = record { inv = record { sound = S; states = I.states; count = add-zero _ ∙ I.count }; told = (n, refl, ((λ s x. not_owed (look_of t n) s e x), refl, refl)); honest = silent }
         go (Some s) e = record { inv = cleaning-keeps n s (owed_held _ s e) (Committed true); told = (n, refl, cleaned n s (owed_held _ s e) (Committed true)); honest = silent }
 
@@ -230,7 +230,7 @@ module _ (r : RunMeaning) (b : Book) (I : Inv r b) where
   pub step-good : (k : Call) → Good r b k (step r k)
   unfolding step
   step-good k =
-      provided-good k (ltb r.tally.steps 1000000) TooManySteps _ λ x.
+      provided-good k (ltb r.tally.steps most_steps) TooManySteps _ λ x.
       provided-good k (ltb (core_of k) (count_of cs)) NoSuchCore _ λ y.
       provided-good k (fits_in (size_of m) k) NoSuchBlock _ λ z.
       let lt : core_of k < length cs = omega (arith, ltb-true _ _ y) in

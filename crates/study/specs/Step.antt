@@ -28,7 +28,7 @@ use Rattle.row.specs.declared.operation.Operation.TheVariants.{BringUp, Put, Cha
 use Rattle.row.specs.Cores.{CoreMeaning, count_of, tier_at, state_at, turned, operated_out, done, invalidated, met, awaited}
 use Rattle.study.specs.declared.effect.Performed.{Performed}
 use Rattle.study.specs.declared.effect.Performed.TheVariants.{Nothing, Read as ARead, Write as AWrite}
-use Rattle.study.specs.Run.{RunMeaning, a_run, tallied, Outcome, outcome}
+use Rattle.study.specs.Run.{RunMeaning, a_run, most_steps, tallied, Outcome, outcome}
 
 -- the stamp of a block that is valid in memory
 abbrev pub valid_of : Result (Option ℕ) MemoryRefusal → Option ℕ
@@ -38,22 +38,23 @@ valid_of (Err e) = None
 abbrev pub valid : MemoryMeaning → ℕ → Option ℕ
 valid m n = valid_of (asked m n)
 
--- a line leaves a tier: modified, its stamp is stored in memory; shared, it is dropped
-abbrev pub left_as : Mark → ℕ → ℕ → MemoryMeaning → MemoryMeaning
-left_as Shared n s m = m
-left_as Modified n s m = after m (store n s)
+-- memory when a line has left a tier: modified, its stamp is stored; shared, it is dropped
+abbrev pub memory_taking_as : Mark → ℕ → ℕ → MemoryMeaning → MemoryMeaning
+memory_taking_as Shared n s m = m
+memory_taking_as Modified n s m = after m (store n s)
 
-abbrev pub left : Option Line → MemoryMeaning → MemoryMeaning
-left None m = m
-left (Some g) m = left_as g.mark g.block g.stamp m
+abbrev pub memory_taking : Option Line → MemoryMeaning → MemoryMeaning
+memory_taking None m = m
+memory_taking (Some g) m = memory_taking_as g.mark g.block g.stamp m
 
-abbrev pub leaving_as : Mark → Movement
-leaving_as Shared = Still
-leaving_as Modified = Memory
+-- how the line moved
+abbrev pub movement_as : Mark → Movement
+movement_as Shared = Still
+movement_as Modified = Memory
 
-abbrev pub leaving : Option Line → Movement
-leaving None = Still
-leaving (Some g) = leaving_as g.mark
+abbrev pub movement_of : Option Line → Movement
+movement_of None = Still
+movement_of (Some g) = movement_as g.mark
 
 -- what a call is charged for two movements
 abbrev pub charged : Prices → Movement → Movement → ℕ
@@ -85,7 +86,7 @@ pushed_out r c n h = operated_out (tier_at r.cores c) (BringUp n h)
 -- core c reads block n, which it holds so
 abbrev pub reading : RunMeaning → ℕ → ℕ → Holding → Outcome
 reading r c n h =
-    accepted r (brought_up r c n h) (left (pushed_out r c n h) r.memory) ARead (FromLevel h.2) (leaving (pushed_out r c n h)) (WasRead h.1)
+    accepted r (brought_up r c n h) (memory_taking (pushed_out r c n h) r.memory) ARead (FromLevel h.2) (movement_of (pushed_out r c n h)) (WasRead h.1)
 
 -- core c becomes the only holder of block n: the others drop it, a modified copy met is stored, and memory's is stale
 abbrev pub alone_cores : Bool → ℕ → ℕ → List CoreMeaning → List CoreMeaning
@@ -105,8 +106,8 @@ abbrev pub writing : RunMeaning → ℕ → ℕ → Holding → Outcome
 writing r c n h =
     accepted r
     (done (alone_cores (is_modified h) c n (brought_up r c n h)) c (Change (line n Modified (r.tally.writes + 1))))
-    (alone_memory (is_modified h) c n (brought_up r c n h) (left (pushed_out r c n h) r.memory))
-    AWrite (FromLevel h.2) (leaving (pushed_out r c n h)) (Wrote (r.tally.writes + 1))
+    (alone_memory (is_modified h) c n (brought_up r c n h) (memory_taking (pushed_out r c n h) r.memory))
+    AWrite (FromLevel h.2) (movement_of (pushed_out r c n h)) (Wrote (r.tally.writes + 1))
 
 -- an access as a ready core makes it
 abbrev pub access_by : RunMeaning → ℕ → Access → Option Holding → Outcome
@@ -125,8 +126,8 @@ abbrev pub fetching : RunMeaning → ℕ → Access → ℕ → Outcome
 fetching r c a s =
     accepted r
     (turned (done r.cores c (Put (line (block_of a) Shared s))) c (Due a))
-    (left (fetched_line r c a s) r.memory)
-    Nothing Memory (leaving (fetched_line r c a s)) (Brought (block_of a))
+    (memory_taking (fetched_line r c a s) r.memory)
+    Nothing Memory (movement_of (fetched_line r c a s)) (Brought (block_of a))
 
 abbrev pub fetch_by : RunMeaning → ℕ → Access → Option ℕ → Outcome
 fetch_by r c a None = refused r StaleBlock
@@ -140,22 +141,22 @@ abbrev pub cleaning : RunMeaning → ℕ → ℕ → ℕ → Answer → Outcome
 cleaning r c n s x = accepted r (done r.cores c (Change (line n Shared s))) (after r.memory (store n s)) Nothing Memory Still x
 
 -- the stamp with which core c holds block n modified
-abbrev pub owed : RunMeaning → ℕ → ℕ → Option ℕ
-owed r c n = modified_stamp (look_of (tier_at r.cores c) n)
+abbrev pub modified_at : RunMeaning → ℕ → ℕ → Option ℕ
+modified_at r c n = modified_stamp (look_of (tier_at r.cores c) n)
 
 abbrev pub flush_by : RunMeaning → ℕ → ℕ → Option ℕ → Outcome
 flush_by r c n None = refused r NotOwed
 flush_by r c n (Some s) = provided (awaited 0 c n r.cores) NotOwed r (cleaning r c n s (Flushed n))
 
 abbrev pub flush : RunMeaning → ℕ → ℕ → Outcome
-flush r c n = flush_by r c n (owed r c n)
+flush r c n = flush_by r c n (modified_at r c n)
 
 abbrev pub commit_by : RunMeaning → ℕ → ℕ → Option ℕ → Outcome
 commit_by r c n None = accepted r r.cores r.memory Nothing Still Still (Committed false)
 commit_by r c n (Some s) = cleaning r c n s (Committed true)
 
 abbrev pub commit : RunMeaning → ℕ → ℕ → Outcome
-commit r c n = commit_by r c n (owed r c n)
+commit r c n = commit_by r c n (modified_at r c n)
 
 -- what a call does depends on the state of its core
 abbrev pub act : RunMeaning → Call → CoreState → Outcome
@@ -179,12 +180,9 @@ act r (Commit c n) (Waiting a) = refused r WrongState
 act r (Commit c n) (Due a) = refused r WrongState
 
 -- the questions that are put to every call, in this order, and then the call
-abbrev pub checked : RunMeaning → Call → Outcome
-checked r k =
-    provided (nat_lt r.tally.steps 1000000) TooManySteps r
+unfoldable pub step : RunMeaning → Call → Outcome
+step r k =
+    provided (nat_lt r.tally.steps most_steps) TooManySteps r
     (provided (nat_lt (core_of k) (count_of r.cores)) NoSuchCore r
     (provided (fits_in (size_of r.memory) k) NoSuchBlock r
     (act r k (state_at r.cores (core_of k)))))
-
-unfoldable pub step : RunMeaning → Call → Outcome
-step = checked

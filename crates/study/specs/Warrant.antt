@@ -8,7 +8,7 @@ use Rattle.memory.specs.Meaning.{MemoryMeaning, size_of, Lawful as LawfulMemory}
 use Rattle.protocol.specs.declared.call.Call.{Call}
 use Rattle.protocol.specs.declared.weights.Prices.{Prices}
 use Rattle.protocol.specs.Prices.{Affordable}
-use Rattle.row.specs.Cores.{CoreMeaning, count_of, AllLawful}
+use Rattle.row.specs.Cores.{CoreMeaning, most_cores, count_of, AllLawful}
 use Rattle.study.specs.Step.{valid}
 use Rattle.study.specs.Opening.{opened}
 use Rattle.study.specs.Play.{played, history}
@@ -36,4 +36,4 @@ pub record Warranted (cs : List CoreMeaning) (m : MemoryMeaning) (w : Prices) : 
 
 -- for any lawful tiers, at most eight cores, and any lawful memory
 abbrev pub Warrant : Type 0
-Warrant = (cs : List CoreMeaning) (m : MemoryMeaning) (w : Prices) → count_of cs ≤ 8 → AllLawful cs → LawfulMemory m → Affordable w → Warranted cs m w
+Warrant = (cs : List CoreMeaning) (m : MemoryMeaning) (w : Prices) → count_of cs ≤ most_cores → AllLawful cs → LawfulMemory m → Affordable w → Warranted cs m w
