@@ -10,7 +10,8 @@ use Rattle.protocol.specs.Accesses.{block_of}
 use Rattle.row.specs.declared.operation.Operation.{Operation}
 use Rattle.row.specs.declared.operation.Operation.TheVariants.{BringUp, Put, Change}
 
--- a row is the list of its cores. A core: what it holds, and where it stands with its access
+-- a row is the list of its cores, numbered from 0. A core: what its tier holds, and where it stands with its access; the stamp of
+-- a copy tells which write the copy shows
 pub record CoreMeaning : Type 0 where
   pub tier : TierMeaning
   pub state : CoreState
