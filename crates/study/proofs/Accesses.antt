@@ -9,6 +9,7 @@ use Rattle.parts.specs.declared.line.Line.{Line}
 use Rattle.parts.specs.Marks.{mark_number, mark_of}
 use Rattle.device.specs.Device.{after}
 use Rattle.tier.specs.Meaning.{TierMeaning, change, Holding, look_of, line, bare, Lawful}
+use Rattle.tier.specs.Options.{none-some}
 use Rattle.memory.specs.Meaning.{MemoryMeaning, size_of}
 use Rattle.protocol.specs.declared.access.Access.{Access}
 use Rattle.protocol.specs.declared.access.Access.TheVariants.{Read as ToRead, Write as ToWrite}
@@ -30,10 +31,11 @@ use Rattle.study.specs.Book.{Book, asking, heard, entered, may_write, noted, Hon
 use Rattle.study.specs.Coherence.{copy_of}
 use Rattle.study.specs.Told.{Asks, Told}
 use Rattle.study.proofs.Block.{Owner, owner, stamped, kept}
-use Rattle.study.proofs.Tiers.{held, lawful-after, Raised, raises, change-holds, change-others}
-use Rattle.study.proofs.Memories.{Kept, alone-kept, alone-stale, left-lawful, left-size, left-change}
+use Rattle.study.proofs.Tiers.{held, Passed, stayed, gone, lawful-after, Raised, raises, change-holds, change-others}
+use Rattle.study.proofs.Memories.{Kept, alone-kept, alone-stale, left-lawful, left-size, left-others, left-change}
 use Rattle.study.proofs.Rows.{Replaced, copy_here, copy_there, placed, operated_on, turned-done, Drops, Alone, alone}
 use Rattle.study.proofs.Sound.{Sound, inside, change-sound, own-sound}
+use Rattle.study.proofs.Rests.{rest-of}
 
 -- a core with the tier t in the state s, where memory has z blocks and a is the block that the core last asked for
 abbrev StandsIn : ℕ → ℕ → TierMeaning → CoreState → Type 0
@@ -162,6 +164,14 @@ module _ (r : RunMeaning) (b : Book) (k : Call) (S : Sound r.cores r.memory b.nu
     within : n < size_of m
     within = inside cs m b.number S c n (h.0, h.1) (ap bare e)
 
+    -- it is not given out itself
+    stays₁ : (g : Line) → out ≡ Some g → n ≢ g.block
+    stays₁ = go (up.passed n)
+      where
+        go : Passed t t₁ out n → (g : Line) → out ≡ Some g → n ≢ g.block
+        go (stayed x f) = f
+        go (gone g' x q y z) = none-some (held t₁ n) (h.0, h.1) (ap (held t₁) q ∙ z) up.holds
+
     first₁ : look_of t₁ n ≡ Some (h.0, h.1, 1)
     first₁ = raised_look t ok n h e
 
@@ -183,6 +193,8 @@ module _ (r : RunMeaning) (b : Book) (k : Call) (S : Sound r.cores r.memory b.nu
         holds = ap (λ (x : CoreMeaning). look_of x.tier n) replaced₁.here ∙ first₁ ∙ ap (λ i. Some (i, h.1, 1)) (sym mark.2);
         ready = ap (λ (x : CoreMeaning). x.state) replaced₁.here;
         others = replaced₁.there;
+        rest = rest-of r _ c n t₁ out S.memory (inside cs m b.number S c) (λ j ne. copy_here cs cs₁ c _ replaced₁ j) (λ j ne. refl) (λ j ne. up.passed j) stays₁;
+        memory = left-others m S.memory out n stays₁;
       };
       honest = λ _. rw q (stamped (b.number n) _ _ c (h.0, h.1) (ap bare e) (S.blocks n within));
     }
@@ -245,6 +257,8 @@ module _ (r : RunMeaning) (b : Book) (k : Call) (S : Sound r.cores r.memory b.nu
             ready = ap (λ (x : CoreMeaning). x.state) replaced₂.here;
             alone = λ d ne. copy_there cs₂ _ c _ replaced₂ n d ne ∙ (alone₂.there d ne).empty;
             stale = stale₂;
+            rest = rest-of r _ c n t₁ out S.memory (inside cs m b.number S c)
+                (λ j ne. copy_here cs₂ _ c _ replaced₂ j ∙ change-others t₁ up.lawful n Modified w j ne) kept₂.others (λ j ne. up.passed j) stays₁;
             newest = refl;
             states = λ d ne. ap (λ (x : CoreMeaning). x.state) (replaced₂.there d ne) ∙ (alone₂.there d ne).state ∙ ap (λ (x : CoreMeaning). x.state) (replaced₁.there d ne);
             others = λ d j ne nj. copy_there cs₂ _ c _ replaced₂ j d ne ∙ (alone₂.there d ne).others j nj ∙ copy_there cs cs₁ c _ replaced₁ j d ne;

@@ -33,8 +33,9 @@ use Rattle.study.specs.Told.{Asks, NowClean}
 use Rattle.study.proofs.Block.{Copy, shared, modified, Change, kept, joined, stored}
 use Rattle.study.proofs.Tiers.{held, lawful-after, put_holds, put-stays, put-passes, change-holds, change-others}
 use Rattle.study.proofs.Memories.{Kept, kept-after, valid-named, left-lawful, left-size, left-others, left-change}
-use Rattle.study.proofs.Rows.{Replaced, operated_on, turned-done}
+use Rattle.study.proofs.Rows.{Replaced, copy_here, operated_on, turned-done, wanted}
 use Rattle.study.proofs.Sound.{Sound, but_same, but-other, inside, change-sound}
+use Rattle.study.proofs.Rests.{rest-of}
 use Rattle.study.proofs.Accesses.{Stands, Inv, Good, silent, stands-less, stands_replaced, Credits, resume_credits, access-good}
 
 -- a stamp that is owed is that of a modified copy
@@ -131,10 +132,13 @@ module _ (r : RunMeaning) (b : Book) (I : Inv r b) where
                 waited = e;
                 block = refl;
                 stamp = s;
-                valid = v;
+                stored = v;
+                memory = left-others m S.memory out n (put-stays t ok n Shared s free) ∙ v;
                 holds = ap (λ (x : CoreMeaning). look_of x.tier n) R.here ∙ (ok []).put_in n Shared s free;
                 due = ap (λ (x : CoreMeaning). x.state) R.here;
                 others = R.there;
+                rest = rest-of r _ c n (after t (put n Shared s)) out S.memory (inside cs m b.number S c) (λ j ne. copy_here cs _ c _ R j) (λ j ne. refl)
+                    (λ j ne. put-passes t ok n Shared s free j ne) (put-stays t ok n Shared s free);
               },
             );
             honest = silent;
@@ -176,9 +180,10 @@ module _ (r : RunMeaning) (b : Book) (I : Inv r b) where
             level = held.0;
             held = held.1;
             holds = ap (λ (x : CoreMeaning). look_of x.tier n) R.here ∙ (ok []).change_in n Shared s _ held.1;
-            valid = valid-named m S.memory (store n s) (inside cs m b.number S c n (modified s) e);
+            memory = valid-named m S.memory (store n s) (inside cs m b.number S c n (modified s) e);
             state = ap (λ (x : CoreMeaning). x.state) R.here;
             others = R.there;
+            rest = λ j ne. (copy_here cs cs' c _ R j ∙ change-others t ok n Shared s j ne, K.others j ne);
           }
 
       cleaning-keeps : (x : Answer) → Inv (cleaning r c n s x).run b
@@ -198,7 +203,7 @@ module _ (r : RunMeaning) (b : Book) (I : Inv r b) where
         go : (o : Option ℕ) → modified_at r c n ≡ o → Good r b (Flush c n) (flush_by r c n o)
         go None e = refused-good (Flush c n) NotOwed
         go (Some s) e = provided-good (Flush c n) (awaited 0 c n cs) NotOwed _
-            (λ x. record { inv = cleaning-keeps n s (owed_held _ s e) (Flushed n); told = (refl, cleaned n s (owed_held _ s e) (Flushed n)); honest = silent })
+            (λ x. record { inv = cleaning-keeps n s (owed_held _ s e) (Flushed n); told = (refl, wanted cs c n S.short x, cleaned n s (owed_held _ s e) (Flushed n)); honest = silent })
 
     commit-good : (n : ℕ) → Good r b (Commit c n) (commit r c n)
     commit-good n = go (modified_at r c n) refl
