@@ -1,5 +1,5 @@
 -- A study that came to an end leaves the lent table as its memory is.
-use Rattle.std.proofs.Common.{◌≡◌, ℕ, nat_lt, ◌||◌, Bool, true, false, cond, eqb, ltb, List, [], ◌∷◌, map, Ok, Err, Result, sym, ap, ◌∙◌, arith}
+use Rattle.std.proofs.Common.{◌≡◌, ℕ, Bool, true, false, cond, eqb, ltb, List, [], ◌∷◌, map, Ok, Err, Result, sym, refl, ap, ◌∙◌, arith}
 use Rattle.memory.specs.declared.cell.Cell.{Cell}
 use Rattle.memory.specs.Meaning.{MemoryMeaning, Lent, size_of, lent_of}
 use Rattle.memory.specs.Flat.{flat}
@@ -8,18 +8,28 @@ use Rattle.protocol.specs.declared.call.Call.{Call}
 use Rattle.protocol.specs.declared.refusal.Refusal.{Refusal}
 use Rattle.protocol.specs.declared.refusal.Refusal.TheVariants.{TooManyCores, NoBlocks, WeightTooHigh}
 use Rattle.protocol.specs.declared.weights.Prices.{Prices}
-use Rattle.protocol.specs.Prices.{weighing}
+use Rattle.protocol.specs.Prices.{is_dear, weighing}
 use Rattle.row.specs.Cores.{CoreMeaning, count_of}
+use Rattle.study.specs.declared.quote.Quote.{Quote}
 use Rattle.study.specs.Run.{RunMeaning}
 use Rattle.study.specs.Opening.{opened, opening, started}
 use Rattle.study.specs.Play.{played}
-use Rattle.study.specs.Settling.{Ending, simulated}
+use Rattle.study.specs.Settling.{Ending, simulated, quoted, memory_after}
 use Rattle.study.specs.Stages.{weighed_as, answer_of}
 use Rattle.study.proofs.Loans.{loans-kept}
-use Rattle.lent_study.specs.Lent.{memory_after, lent}
+use Rattle.lent_study.specs.Lent.{lent}
 
 no_end : (x : Ending) (e : Refusal) → ◌≡◌ {A = Result Ending Refusal} (Ok x) (Err e) → ⊥
 no_end x e p = let z : ◌≡◌ {A = ℕ} 0 1 = cc in omega arith
+
+-- the quote of a study that was played and settled
+abbrev pub quote_in : Result Ending Refusal → Result Quote Refusal
+quote_in (Ok x) = Ok x.quote
+quote_in (Err e) = Err e
+
+pub quotes : (o : Result RunMeaning Refusal) (ks : List Call) → quote_in (simulated o ks) ≡ quoted o ks
+quotes (Ok r) ks = refl
+quotes (Err e) ks = refl
 
 -- a weighing that was not refused: the draft opens at the new weights
 pub weighed-started : (W : Result Prices Refusal) (w w' : Prices) (cs : List CoreMeaning) (m : MemoryMeaning) → Ok tt ≡ answer_of W → w ≡ weighed_as W w' → started W cs m ≡ opening cs m w
@@ -28,7 +38,7 @@ weighed-started (Err x) w w' cs m e p = let z : ◌≡◌ {A = ℕ} 0 1 = cc in 
 
 -- its weights are those that were asked for
 pub weighed-at : (w v v' : Prices) → Ok tt ≡ answer_of (weighing w) → v ≡ weighed_as (weighing w) v' → v ≡ w
-weighed-at w v v' = go (nat_lt 1000 w.w1 || (nat_lt 1000 w.w2 || (nat_lt 1000 w.w3 || (nat_lt 1000 w.w4 || nat_lt 1000 w.wm))))
+weighed-at w v v' = go (is_dear w)
   where
     high : Bool → Result Prices Refusal
     high b = cond b (Err WeightTooHigh) (Ok w)

@@ -1,5 +1,5 @@
 -- How a block moves in one tier.
-use Rattle.std.specs.Prelude.{ℕ, cond, Some, None, Ok, Err, Option, Result, ◌==◌}
+use Rattle.std.specs.Prelude.{ℕ, Bool, cond, Some, None, Ok, Err, Option, Result, ◌==◌}
 use Rattle.device.specs.Device.{after}
 use Rattle.parts.specs.declared.mark.Mark.{Mark}
 use Rattle.parts.specs.declared.mark.Mark.TheVariants.{Modified}
@@ -29,7 +29,10 @@ raised m n h = cond (h.2 == 1) (after m (touch n)) (put_back m n (mark_of h.0) h
 abbrev pub raised_out : TierMeaning → ℕ → Holding → Option Line
 raised_out m n h = cond (h.2 == 1) None (put_back_out m n (mark_of h.0) h.1)
 
--- the stamp of a copy that is modified
+-- whether a copy is modified, and the stamp of one that is
+abbrev pub is_modified : Holding → Bool
+is_modified h = h.0 == mark_number Modified
+
 abbrev pub modified_stamp : Option Holding → Option ℕ
 modified_stamp None = None
-modified_stamp (Some h) = cond (h.0 == mark_number Modified) (Some h.1) None
+modified_stamp (Some h) = cond (is_modified h) (Some h.1) None

@@ -1,7 +1,7 @@
 //! How a step moves a block in the caches of one core, whatever its tier.
 #![tactic(auto)]
 
-ghost use Rattle.std.specs.Prelude.{◌≡◌};
+ghost use Rattle.std.specs.Prelude.{◌≡◌, Some};
 ghost use Rattle.device.specs.Device.{after};
 ghost use Rattle.parts.specs.Marks.{mark_of};
 ghost use Rattle.tier.specs.Meaning.{put, take, look_of, put_answer};
@@ -29,8 +29,8 @@ fn put_back<T: Tier>(tier: &mut T, block: u16, mark: u32, stamp: u32) -> Option<
     put_block(tier, Line { block, mark, stamp })
 }
 
-/// Brings a block that is held so up to level 1, and gives out the one that leaves for it.
-pub fn bring_up<T: Tier>(tier: &mut T, block: u16, held: (u32, u32, u32)) -> Option<Line>
+// Touches a block that is held at level 1, and puts one that is held below it again.
+fn raise<T: Tier>(tier: &mut T, block: u16, held: (u32, u32, u32)) -> Option<Line>
     ensures answer { result ≡ raised_out (T.Tier.meaning tier.old) block held }
     ensures next { T.Tier.meaning tier.new ≡ raised (T.Tier.meaning tier.old) block held }
 {
@@ -40,6 +40,15 @@ pub fn bring_up<T: Tier>(tier: &mut T, block: u16, held: (u32, u32, u32)) -> Opt
         return None;
     }
     put_back(tier, block, mark, stamp)
+}
+
+/// Brings a block that is held so up to level 1, where it keeps its mark and stamp, and gives out the one that leaves for it.
+pub fn bring_up<T: Tier>(tier: &mut T, block: u16, held: (u32, u32, u32)) -> Option<Line>
+    ensures answer { result ≡ raised_out (T.Tier.meaning tier.old) block held }
+    ensures next { T.Tier.meaning tier.new ≡ raised (T.Tier.meaning tier.old) block held }
+    ensures law { look_of (T.Tier.meaning tier.old) block ≡ Some held → look_of (T.Tier.meaning tier.new) block ≡ Some (held.0, held.1, 1) }
+{
+    raise(tier, block, held)
 }
 
 /// The stamp of a copy that is modified.

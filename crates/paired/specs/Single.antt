@@ -4,6 +4,7 @@ use Rattle.memory.specs.Meaning.{MemoryMeaning}
 use Rattle.protocol.specs.declared.call.Call.{Call}
 use Rattle.row.specs.Cores.{CoreMeaning}
 use Rattle.study.specs.Run.{RunMeaning}
+use Rattle.study.specs.Settling.{quoted, cores_after, memory_after}
 use Rattle.study.specs.Warrant.{Warranted}
 use Rattle.scenario.specs.declared.fault.Fault.{Fault}
 use Rattle.scenario.specs.declared.fault.File.TheVariants.{Schedule}
@@ -13,7 +14,7 @@ use Rattle.scenario.specs.Texts.{single_of}
 use Rattle.report.specs.declared.paired.Side.{Side}
 use Rattle.report.specs.Pairs.{side_fault_line}
 use Rattle.simulator.specs.Report.{by_side, report_of}
-use Rattle.simulator.specs.Simulation.{opened, schedule_of, prices_of, quoted, cores_after, memory_after}
+use Rattle.simulator.specs.Simulation.{opened, schedule_of, prices_of}
 use Rattle.paired.specs.declared.single.SingleStudy.{SingleStudy}
 
 -- what is wrong with the study itself is wrong with its schedule

@@ -1,6 +1,6 @@
 //! What the movements of blocks cost.
 ghost use Rattle.std.specs.Prelude.{◌≡◌, ◌≤◌};
-ghost use Rattle.protocol.specs.Prices.{price, weighing, none, Affordable};
+ghost use Rattle.protocol.specs.Prices.{price, weighing, none, most_weight, Affordable};
 
 use crate::refusal::Refusal;
 
@@ -71,7 +71,7 @@ impl Weights {
     /// What a movement costs.
     pub fn price(self, movement: Movement) -> u16
         ensures price { result ≡ price (prices_of self) movement }
-        ensures bound { result ≤ 1000 }
+        ensures bound { result ≤ most_weight }
     {
         match movement {
             Movement::Still => 0,

@@ -1,5 +1,5 @@
 -- Cores in a row, and what the calls of a row do.
-use Rattle.std.specs.Prelude.{ℕ, suc, min, Bool, true, false, cond, ◌&&◌, ◌||◌, List, [], ◌∷◌, length, Some, None, Option, ◌==◌, nat_lt, slice_index_or, slice_set}
+use Rattle.std.specs.Prelude.{ℕ, suc, ◌+◌, min, Bool, true, false, cond, ◌&&◌, ◌||◌, List, [], ◌∷◌, length, Some, None, Option, ◌==◌, nat_lt, slice_index_or, slice_set}
 use Rattle.device.specs.Device.{after}
 use Rattle.parts.specs.declared.line.Line.{Line}
 use Rattle.tier.specs.Meaning.{TierMeaning, put, take, change, clear, look_of, put_answer, Lawful}
@@ -10,7 +10,8 @@ use Rattle.protocol.specs.Accesses.{block_of}
 use Rattle.row.specs.declared.operation.Operation.{Operation}
 use Rattle.row.specs.declared.operation.Operation.TheVariants.{BringUp, Put, Change}
 
--- a core: what it holds, and where it stands with its access
+-- a row is the list of its cores, numbered from 0. A core: what its tier holds, and where it stands with its access; the stamp of
+-- a copy tells which write the copy shows
 pub record CoreMeaning : Type 0 where
   pub tier : TierMeaning
   pub state : CoreState
@@ -25,16 +26,20 @@ no_tier = record { fixed = 1; shows = λ cs. record { look = λ n. None; out = �
 unfoldable pub absent : CoreMeaning
 absent = core no_tier Ready
 
+-- the most cores that are addressed
+abbrev pub most_cores : ℕ
+most_cores = 8
+
 -- how many cores there are; more than eight count as nine
 abbrev pub count_of : List CoreMeaning → ℕ
-count_of cs = min 9 (length cs)
+count_of cs = min (most_cores + 1) (length cs)
 
 -- core c, and the row with another core in its place; cores after the eighth are never addressed
 unfoldable pub core_at : List CoreMeaning → ℕ → CoreMeaning
-core_at cs c = cond (nat_lt c 8) (slice_index_or cs c absent) absent
+core_at cs c = cond (nat_lt c most_cores) (slice_index_or cs c absent) absent
 
 unfoldable pub place : List CoreMeaning → ℕ → CoreMeaning → List CoreMeaning
-place cs c x = cond (nat_lt c 8) (slice_set cs c x) cs
+place cs c x = cond (nat_lt c most_cores) (slice_set cs c x) cs
 
 abbrev pub tier_at : List CoreMeaning → ℕ → TierMeaning
 tier_at cs c = (core_at cs c).tier
@@ -63,7 +68,7 @@ done cs c o = place cs c (core (operated (tier_at cs c) o) (state_at cs c))
 
 -- a message reaches core i unless i sent it or comes after the eighth
 abbrev pub reaches : ℕ → ℕ → Bool
-reaches sender i = cond (i == sender) false (nat_lt i 8)
+reaches sender i = cond (i == sender) false (nat_lt i most_cores)
 
 -- the core drops block n
 abbrev pub dropped : Bool → ℕ → CoreMeaning → CoreMeaning

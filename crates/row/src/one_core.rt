@@ -1,9 +1,7 @@
 //! A row of one core.
-ghost use Rattle.std.specs.Prelude.{◌≡◌, [], ◌∷◌, if◌then◌else◌, None, nat_eq};
-ghost use Rattle.device.specs.Device.{after};
-ghost use Rattle.tier.specs.Meaning.{clear, look_of};
+ghost use Rattle.std.specs.Prelude.{◌≡◌, [], ◌∷◌};
 ghost use Rattle.protocol.specs.declared.access.CoreState.TheVariants.{Ready};
-ghost use Rattle.row.specs.Cores.{core, operated, operated_out, reaches, awaits};
+ghost use Rattle.row.specs.Cores.{core, operated, operated_out, awaits};
 
 use crate::Row;
 use crate::message::Message;

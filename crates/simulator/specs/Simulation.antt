@@ -6,11 +6,8 @@ use Rattle.protocol.specs.declared.refusal.Refusal.{Refusal}
 use Rattle.protocol.specs.declared.weights.Prices.{Prices}
 use Rattle.protocol.specs.Prices.{weighing, none}
 use Rattle.row.specs.Cores.{CoreMeaning}
-use Rattle.study.specs.declared.quote.Quote.{Quote}
 use Rattle.study.specs.Run.{RunMeaning}
 use Rattle.study.specs.Opening.{started}
-use Rattle.study.specs.Play.{played}
-use Rattle.study.specs.Settling.{quote_of}
 use Rattle.scenario.specs.declared.fault.Fault.{Fault}
 use Rattle.scenario.specs.declared.fault.Fault.TheVariants.{Study}
 use Rattle.scenario.specs.declared.reader.Text.{Text}
@@ -38,20 +35,6 @@ schedule_of (Err e) = []
 abbrev pub prices_of : {E : Type 0} → Result Read E → Prices
 prices_of (Ok t) = t.prices
 prices_of (Err e) = none
-
--- what the study comes to
-abbrev pub quoted : {E : Type 0} → Result RunMeaning E → List Call → Result Quote E
-quoted (Ok r) ks = Ok (quote_of (played r ks).tally)
-quoted (Err e) ks = Err e
-
--- cores and memory afterwards: as the run leaves them, or untouched
-abbrev pub cores_after : {E : Type 0} → Result RunMeaning E → List CoreMeaning → List Call → List CoreMeaning
-cores_after (Ok r) cs ks = (played r ks).cores
-cores_after (Err e) cs ks = cs
-
-abbrev pub memory_after : {E : Type 0} → Result RunMeaning E → MemoryMeaning → List Call → MemoryMeaning
-memory_after (Ok r) m ks = (played r ks).memory
-memory_after (Err e) m ks = m
 
 -- a layout once its study was opened: as it was, or all unplaced
 abbrev pub layout_after : Result RunMeaning Fault → List ℕ → List ℕ

@@ -1,10 +1,11 @@
 //! The whole way, from the bytes of a scenario to those of its report.
 ghost use Rattle.std.specs.Prelude.{◌≡◌, OnOk, IfErr};
 ghost use Rattle.std.specs.Io.KnownBytes.{Appends};
+ghost use Rattle.study.specs.Settling.{quoted, cores_after, memory_after};
 ghost use Rattle.study.specs.Warrant.{Warranted};
 ghost use Rattle.scenario.specs.Texts.{scenario_of};
 ghost use Rattle.simulator.specs.Report.{in_full, report_of};
-ghost use Rattle.simulator.specs.Simulation.{asked, opened, schedule_of, prices_of, quoted, cores_after, memory_after, layout_after, table_left};
+ghost use Rattle.simulator.specs.Simulation.{asked, opened, schedule_of, prices_of, layout_after, table_left};
 
 use crate::begin::begin;
 use crate::form::{InFull, Telling};

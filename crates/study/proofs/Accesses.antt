@@ -1,11 +1,15 @@
 -- What every call keeps, and that accesses keep it: waiting, reading and writing.
-use Rattle.std.proofs.Common.{◌≡◌, ℕ, ◌+◌, ◌<◌, Bool, true, false, cond, ◌≢◌, List, length, Some, None, Option, sym, refl, ap, ◌∙◌, subst, add-zero}
+use Rattle.std.proofs.Common.{◌≡◌, ℕ, ◌+◌, ◌<◌, Bool, true, false, cond, ◌≢◌, List, [], length, Some, None, Option, sym, refl, ap, ◌∙◌, subst, add-zero}
 use mathlib.Core.Bool.{false≢true}
 use native.Mathlib.Decide.{ℕ_discrete}
 use Rattle.std.proofs.lemmas.Bool.{eqb-true}
+use Rattle.parts.specs.declared.mark.Mark.{Mark}
 use Rattle.parts.specs.declared.mark.Mark.TheVariants.{Modified}
 use Rattle.parts.specs.declared.line.Line.{Line}
+use Rattle.parts.specs.Marks.{mark_number, mark_of}
+use Rattle.device.specs.Device.{after}
 use Rattle.tier.specs.Meaning.{TierMeaning, change, Holding, look_of, line, bare, Lawful}
+use Rattle.tier.specs.Options.{none-some}
 use Rattle.memory.specs.Meaning.{MemoryMeaning, size_of}
 use Rattle.protocol.specs.declared.access.Access.{Access}
 use Rattle.protocol.specs.declared.access.Access.TheVariants.{Read as ToRead, Write as ToWrite}
@@ -17,18 +21,21 @@ use Rattle.protocol.specs.declared.call.Call.TheVariants.{Resume}
 use Rattle.protocol.specs.Accesses.{block_of}
 use Rattle.protocol.specs.Answers.{word_of}
 use Rattle.protocol.specs.Calls.{core_of}
-use Rattle.moves.specs.Moves.{raised, raised_out}
+use Rattle.moves.specs.Moves.{is_modified, raised, raised_out}
+use Rattle.moves.proofs.Raising.{mark_of_number, raised_look}
 use Rattle.row.specs.declared.operation.Operation.TheVariants.{BringUp, Change as ToChange}
-use Rattle.row.specs.Cores.{CoreMeaning, core, core_at, tier_at}
+use Rattle.row.specs.Cores.{CoreMeaning, core, core_at, tier_at, state_at, done}
 use Rattle.study.specs.Run.{RunMeaning, Outcome}
-use Rattle.study.specs.Step.{valid, left, waiting, brought_up, reading, alone_cores, alone_memory, is_modified, writing, access_by, access}
+use Rattle.study.specs.Step.{valid, memory_taking, waiting, brought_up, reading, alone_cores, alone_memory, writing, access_by, access}
 use Rattle.study.specs.Book.{Book, asking, heard, entered, may_write, noted, Honest}
 use Rattle.study.specs.Coherence.{copy_of}
+use Rattle.study.specs.Told.{Asks, Told}
 use Rattle.study.proofs.Block.{Owner, owner, stamped, kept}
-use Rattle.study.proofs.Tiers.{held, lawful-after, Raised, raises, change-holds, change-others}
-use Rattle.study.proofs.Memories.{Kept, alone-kept, alone-stale, left-lawful, left-size, left-change}
-use Rattle.study.proofs.Rows.{Replaced, copy_here, placed, operated_on, turned-done, Drops, Alone, alone}
+use Rattle.study.proofs.Tiers.{held, Passed, stayed, gone, lawful-after, Raised, raises, change-holds, change-others}
+use Rattle.study.proofs.Memories.{Kept, alone-kept, alone-stale, left-lawful, left-size, left-others, left-change}
+use Rattle.study.proofs.Rows.{Replaced, copy_here, copy_there, placed, operated_on, turned-done, Drops, Alone, alone}
 use Rattle.study.proofs.Sound.{Sound, inside, change-sound, own-sound}
+use Rattle.study.proofs.Rests.{rest-of}
 
 -- a core with the tier t in the state s, where memory has z blocks and a is the block that the core last asked for
 abbrev StandsIn : ℕ → ℕ → TierMeaning → CoreState → Type 0
@@ -45,9 +52,10 @@ pub record Inv (r : RunMeaning) (b : Book) : Type 0 where
   pub states : (d : ℕ) → Stands (size_of r.memory) (b.asked d) (core_at r.cores d)
   pub count : r.tally.writes ≡ b.count
 
--- a call so answered keeps it, and its answer is honest
-pub record Good (b : Book) (k : Call) (o : Outcome) : Type 0 where
+-- a call of the run r so answered keeps it; its answer is honest, and tells what is so
+pub record Good (r : RunMeaning) (b : Book) (k : Call) (o : Outcome) : Type 0 where
   pub inv : Inv o.run (noted b k (word_of o.answer))
+  pub told : Told k r o.run o.answer
   pub honest : Honest (noted b k (word_of o.answer)) (core_of k) o.answer
 
 -- an answer that does not say read claims nothing
@@ -99,14 +107,28 @@ module _ (r : RunMeaning) (b : Book) (k : Call) (S : Sound r.cores r.memory b.nu
   ok : Lawful t
   ok = S.tiers c lt
 
-  waiting-good : (a : Access) → block_of a < size_of m → asking k b.asked c ≡ block_of a → look_of t (block_of a) ≡ None → Good b k (waiting r c a)
-  waiting-good a h q e =
+  waiting-good : (a : Access) → Asks k (state_at cs c) a → block_of a < size_of m → asking k b.asked c ≡ block_of a → look_of t (block_of a) ≡ None
+      → Good r b k (waiting r c a)
+  waiting-good a asks h q e =
       let R = placed cs c (core t (Waiting a)) S.short lt in
       record {
         inv = record {
           sound = change-sound cs m b.number S _ m c _ R ok S.memory refl (λ n. kept refl refl);
           states = stands_replaced _ _ (asking k b.asked) cs _ c _ R refl states (h, q, ap bare e);
           count = add-zero _ ∙ count;
+        };
+        told = record {
+          wanted = a;
+          asked = asks;
+          block = refl;
+          lacked = ap bare e;
+          waits = ap (λ (x : CoreMeaning). x.state) R.here;
+          others = R.there;
+          tiers = λ d. elim (ℕ_discrete d c) [
+            | yes q ↦ rw q (ap (λ (x : CoreMeaning). x.tier) R.here)
+            | no ne ↦ ap (λ (x : CoreMeaning). x.tier) (R.there d ne)
+          ];
+          memory = refl;
         };
         honest = silent;
       }
@@ -124,7 +146,7 @@ module _ (r : RunMeaning) (b : Book) (k : Call) (S : Sound r.cores r.memory b.nu
     cs₁ = brought_up r c n h
 
     abbrev m₁ : MemoryMeaning
-    m₁ = left out m
+    m₁ = memory_taking out m
 
     up : Raised t t₁ out n (h.0, h.1)
     up = raises t ok n h e
@@ -142,12 +164,37 @@ module _ (r : RunMeaning) (b : Book) (k : Call) (S : Sound r.cores r.memory b.nu
     within : n < size_of m
     within = inside cs m b.number S c n (h.0, h.1) (ap bare e)
 
-    reading-good : Good b k (reading r c n h)
-    reading-good = record {
+    -- it is not given out itself
+    stays₁ : (g : Line) → out ≡ Some g → n ≢ g.block
+    stays₁ = go (up.passed n)
+      where
+        go : Passed t t₁ out n → (g : Line) → out ≡ Some g → n ≢ g.block
+        go (stayed x f) = f
+        go (gone g' x q y z) = none-some (held t₁ n) (h.0, h.1) (ap (held t₁) q ∙ z) up.holds
+
+    first₁ : look_of t₁ n ≡ Some (h.0, h.1, 1)
+    first₁ = raised_look t ok n h e
+
+    mark : (x : Mark) × (mark_of h.0 ≡ Some x) × (mark_number x ≡ h.0)
+    mark = mark_of_number h.0 ((ok []).marks n h e)
+
+    reading-good : Asks k (state_at cs c) (ToRead n) → Good r b k (reading r c n h)
+    reading-good asks = record {
       inv = record {
         sound = sound₁;
         states = stands_replaced _ _ (asking k b.asked) cs cs₁ c _ replaced₁ size₁ states tt;
         count = add-zero _ ∙ count;
+      };
+      told = record {
+        block = n;
+        asked = asks;
+        mark = mark.0;
+        held = ap bare e ∙ ap (λ i. Some (i, h.1)) (sym mark.2);
+        holds = ap (λ (x : CoreMeaning). look_of x.tier n) replaced₁.here ∙ first₁ ∙ ap (λ i. Some (i, h.1, 1)) (sym mark.2);
+        ready = ap (λ (x : CoreMeaning). x.state) replaced₁.here;
+        others = replaced₁.there;
+        rest = rest-of r _ c n t₁ out S.memory (inside cs m b.number S c) (λ j ne. copy_here cs cs₁ c _ replaced₁ j) (λ j ne. refl) (λ j ne. up.passed j) stays₁;
+        memory = left-others m S.memory out n stays₁;
       };
       honest = λ _. rw q (stamped (b.number n) _ _ c (h.0, h.1) (ap bare e) (S.blocks n within));
     }
@@ -179,31 +226,51 @@ module _ (r : RunMeaning) (b : Book) (k : Call) (S : Sound r.cores r.memory b.nu
     abbrev credited : Book
     credited = entered c (heard b k Wrote)
 
+    replaced₂ : Replaced cs₂ (done cs₂ c (ToChange (line n Modified w))) c (core (after t₁ (change n Modified w)) Ready)
+    replaced₂ = operated_on cs₂ c (ToChange (line n Modified w)) (core t₁ Ready) (alone₂.here ∙ replaced₁.here) (rw alone₂.size sound₁.short) (rw alone₂.size lt₁)
+
+    stale₂ : valid (alone_memory (is_modified h) c n cs₁ m₁) n ≡ None
+    stale₂ = alone-stale m₁ sound₁.memory (is_modified h) c n cs₁ within₁ (λ z. (owning z).behind)
+
     written : Inv (writing r c n h).run credited
-    written =
-        let replaced₂ = operated_on cs₂ c (ToChange (line n Modified w)) (core t₁ Ready) (alone₂.here ∙ replaced₁.here)
-        (rw alone₂.size sound₁.short) (rw alone₂.size lt₁) in
+    written = record {
+      sound = rw (q, ← count) (own-sound cs₁ m₁ b.number sound₁ cs₂ _ _ c n w _ alone₂ replaced₂
+          (lawful-after t₁ (change n Modified w) up.lawful) kept₂ within₁ stale₂
+          (change-holds t₁ up.lawful n (h.0, h.1) up.holds Modified w)
+          (λ j ne. change-others t₁ up.lawful n Modified w j ne ∙ sym (copy_here cs cs₁ c _ replaced₁ j)));
+      states = stands_replaced (size_of m) _ (asking k b.asked) cs₂ _ c _ replaced₂ (kept₂.size ∙ size₁)
+          (λ d ne. stands-dropped _ _ n _ _ (alone₂.there d ne) (subst (Stands (size_of m) (asking k b.asked d)) (sym (replaced₁.there d ne)) (states d ne))) tt;
+      count = ap (λ i. i + 1) count;
+    }
+
+    writing-good : Asks k (state_at cs c) (ToWrite n) → may_write k ≡ true → Good r b k (writing r c n h)
+    writing-good asks may =
+        let Kept-by : Bool → Type 0 = λ x. Inv (writing r c n h).run (cond x credited (heard b k Wrote)) in
         record {
-          sound = rw (q, ← count) (own-sound cs₁ m₁ b.number sound₁ cs₂ _ _ c n w _ alone₂ replaced₂
-              (lawful-after t₁ (change n Modified w) up.lawful) kept₂ within₁
-              (alone-stale m₁ sound₁.memory (is_modified h) c n cs₁ within₁ (λ z. (owning z).behind))
-              (change-holds t₁ up.lawful n (h.0, h.1) up.holds Modified w)
-              (λ j ne. change-others t₁ up.lawful n Modified w j ne ∙ sym (copy_here cs cs₁ c _ replaced₁ j)));
-          states = stands_replaced (size_of m) _ (asking k b.asked) cs₂ _ c _ replaced₂ (kept₂.size ∙ size₁)
-              (λ d ne. stands-dropped _ _ n _ _ (alone₂.there d ne) (subst (Stands (size_of m) (asking k b.asked d)) (sym (replaced₁.there d ne)) (states d ne))) tt;
-          count = ap (λ i. i + 1) count;
+          inv = subst Kept-by (sym may) written;
+          told = record {
+            block = n;
+            asked = asks;
+            before = h.1;
+            held = (h.0, ap bare e);
+            holds = ap (λ (x : CoreMeaning). look_of x.tier n) replaced₂.here ∙ (up.lawful []).change_in n Modified w (h.0, h.1, 1) first₁;
+            ready = ap (λ (x : CoreMeaning). x.state) replaced₂.here;
+            alone = λ d ne. copy_there cs₂ _ c _ replaced₂ n d ne ∙ (alone₂.there d ne).empty;
+            stale = stale₂;
+            rest = rest-of r _ c n t₁ out S.memory (inside cs m b.number S c)
+                (λ j ne. copy_here cs₂ _ c _ replaced₂ j ∙ change-others t₁ up.lawful n Modified w j ne) kept₂.others (λ j ne. up.passed j) stays₁;
+            newest = refl;
+            states = λ d ne. ap (λ (x : CoreMeaning). x.state) (replaced₂.there d ne) ∙ (alone₂.there d ne).state ∙ ap (λ (x : CoreMeaning). x.state) (replaced₁.there d ne);
+            others = λ d j ne nj. copy_there cs₂ _ c _ replaced₂ j d ne ∙ (alone₂.there d ne).others j nj ∙ copy_there cs cs₁ c _ replaced₁ j d ne;
+          };
+          honest = silent;
         }
 
-    writing-good : may_write k ≡ true → Good b k (writing r c n h)
-    writing-good may =
-        let Kept-by : Bool → Type 0 = λ x. Inv (writing r c n h).run (cond x credited (heard b k Wrote)) in
-        record { inv = subst Kept-by (sym may) written; honest = silent }
-
-  pub access-good : (a : Access) → Credits k a → block_of a < size_of m → asking k b.asked c ≡ block_of a → Good b k (access r c a)
-  access-good a w h q = go a w h q (look_of t (block_of a)) refl
+  pub access-good : (a : Access) → Asks k (state_at cs c) a → Credits k a → block_of a < size_of m → asking k b.asked c ≡ block_of a → Good r b k (access r c a)
+  access-good a asks w h q = go a asks w h q (look_of t (block_of a)) refl
     where
-      go : (a : Access) → Credits k a → block_of a < size_of m → asking k b.asked c ≡ block_of a → (o : Option Holding) → look_of t (block_of a) ≡ o
-          → Good b k (access_by r c a o)
-      go a w h q None e = waiting-good a h q e
-      go (ToRead n) w h q (Some x) e = reading-good n x q e
-      go (ToWrite n) w h q (Some x) e = writing-good n x q e w
+      go : (a : Access) → Asks k (state_at cs c) a → Credits k a → block_of a < size_of m → asking k b.asked c ≡ block_of a
+          → (o : Option Holding) → look_of t (block_of a) ≡ o → Good r b k (access_by r c a o)
+      go a asks w h q None e = waiting-good a asks h q e
+      go (ToRead n) asks w h q (Some x) e = reading-good n x q e asks
+      go (ToWrite n) asks w h q (Some x) e = writing-good n x q e asks w

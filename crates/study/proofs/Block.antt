@@ -54,7 +54,7 @@ module _ (k : ℕ) (h : ℕ → Option Copy) (v : Option ℕ) (c s : ℕ) where
       at r = record { stamp = stamped k h v c (modified s) e (owned o p q z); alone = λ d ne. q d (λ t. ne (t ∙ sym r)); behind = z }
 
   -- where one copy is shared, memory has the block, and all are
-  sharer : h c ≡ Some (shared s) → Consistent k h v → (v ≡ Some k) × ((d : ℕ) → AtMostShared k (h d))
+  pub sharer : h c ≡ Some (shared s) → Consistent k h v → (v ≡ Some k) × ((d : ℕ) → AtMostShared k (h d))
   sharer e (clean p q) = (p, q)
   sharer e (owned o p q z) = elim (ℕ_discrete c o) [
     | yes r ↦ not_both k s (cc)

@@ -1,5 +1,5 @@
 -- The counts of a run are those of its answers.
-use Rattle.std.proofs.Common.{◌≡◌, ℕ, ◌+◌, ◌*◌, ◌<◌, ◌≤◌, Bool, true, false, cond, eqb, List, [], ◌∷◌, Some, Ok, sym, refl, ap, ◌∙◌, subst, add-zero, arith}
+use Rattle.std.proofs.Common.{◌≡◌, ℕ, ◌+◌, ◌<◌, ◌≤◌, Bool, true, false, cond, eqb, List, [], ◌∷◌, Some, Ok, sym, refl, ap, ◌∙◌, subst, add-zero, arith}
 use Rattle.std.proofs.lemmas.Bool.{eqb-true}
 use Rattle.memory.specs.Meaning.{MemoryMeaning}
 use Rattle.protocol.specs.declared.answer.Answer.{Answer}
@@ -13,7 +13,7 @@ use Rattle.protocol.specs.Answers.{word_of}
 use Rattle.protocol.specs.declared.weights.Prices.{Prices}
 use Rattle.protocol.specs.Prices.{level_price, price}
 use Rattle.row.specs.Cores.{CoreMeaning}
-use Rattle.study.specs.Run.{RunMeaning, Outcome, writes_of, accesses_of}
+use Rattle.study.specs.Run.{RunMeaning, Outcome, most_steps, most_charge, Bounded, writes_of, accesses_of}
 use Rattle.study.specs.Step.{charged, accepted, refused, step}
 use Rattle.study.specs.Opening.{opened}
 use Rattle.study.specs.Play.{played, history}
@@ -46,9 +46,8 @@ record Fair (r : RunMeaning) (o : Outcome) : Type 0 where
   accesses : o.run.tally.accesses ≡ r.tally.accesses + says is_access o
   total : o.run.tally.total ≡ r.tally.total + o.charge
   cost : Costs r.prices o.answer o.charge
-  cheap : Affordable r.prices → o.charge ≤ 2000 * says is_accepted o
-  few : r.tally.steps ≤ 1000000 → o.run.tally.steps ≤ 1000000
-  same : is_accepted (word_of o.answer) ≡ false → o.run ≡ r
+  cheap : Affordable r.prices → o.charge ≤ most_charge
+  bounded : Affordable r.prices → Bounded r.tally → Bounded o.run.tally
 
 -- what a call is charged for its two movements is what its answer costs
 leaver_cost : (w : Prices) (x : Bool) → price w (cond x Memory Still) ≡ if_left w x
@@ -88,6 +87,11 @@ word_says (Wrote s) = (refl, refl, refl)
 word_says (Flushed n) = (refl, refl, refl)
 word_says (Committed b) = (refl, refl, refl)
 
+-- at most one
+one-most : (b : Bool) → cond b 1 0 ≤ 1
+one-most true = omega arith
+one-most false = omega arith
+
 module _ (r : RunMeaning) where
   fair-refused : (e : Refusal) → Fair r (refused r e)
   fair-refused e = record {
@@ -98,11 +102,10 @@ module _ (r : RunMeaning) where
     total = omega arith;
     cost = refl;
     cheap = λ h. omega arith;
-    few = λ h. h;
-    same = λ h. refl;
+    bounded = λ h k. k;
   }
 
-  fair-accepted : r.tally.steps < 1000000 → (cs : List CoreMeaning) (m : MemoryMeaning) → Unit {0}
+  fair-accepted : r.tally.steps < most_steps → (cs : List CoreMeaning) (m : MemoryMeaning) → Unit {0}
       → (a b : Movement) (x : Answer) → Moved x a b → Fair r (accepted r cs m (performed_by x) a b x)
   fair-accepted room cs m _ a b x moved =
       let word = word_says x in
@@ -115,12 +118,13 @@ module _ (r : RunMeaning) where
         total = refl;
         cost = moved_cost r.prices a b x moved;
         cheap = λ h. omega (arith, priced r.prices h a, priced r.prices h b);
-        few = λ h. omega arith;
-        same = λ h. absurd (true_false (sym word.0 ∙ h));
+        bounded = λ h k. record {
+          steps = omega (arith, room);
+          writes = omega (arith, k.writes, one-most (is_wrote (word_of (Ok x))), word.1);
+          accesses = omega (arith, k.accesses, one-most (is_access (word_of (Ok x))), word.2);
+          total = omega (arith, k.total, priced r.prices h a, priced r.prices h b);
+        };
       }
-    where
-      true_false : true ≡ false → ⊥
-      true_false e = let z : ◌≡◌ {A = ℕ} 0 1 = cc in omega arith
 
   fair-step : (k : Call) → Fair r (step r k)
   fair-step = of_step (λ _. Unit {0}) (λ m c h. tt) r tt (Fair r) fair-refused fair-accepted
@@ -133,8 +137,7 @@ record Counts (r : RunMeaning) (ks : List Call) : Type 0 where
   writes : (played r ks).tally.writes ≡ r.tally.writes + counted is_wrote (history r ks)
   accesses : (played r ks).tally.accesses ≡ r.tally.accesses + counted is_access (history r ks)
   total : (played r ks).tally.total ≡ r.tally.total + charged_for r ks
-  cheap : Affordable r.prices → charged_for r ks ≤ 2000 * counted is_accepted (history r ks)
-  few : r.tally.steps ≤ 1000000 → (played r ks).tally.steps ≤ 1000000
+  bounded : Affordable r.prices → Bounded r.tally → Bounded (played r ks).tally
 
 counts : (ks : List Call) (r : RunMeaning) → Counts r ks
 unfolding played history counted charged_for
@@ -144,8 +147,7 @@ counts [] r = record {
   writes = omega arith;
   accesses = omega arith;
   total = omega arith;
-  cheap = λ h. omega arith;
-  few = λ h. h;
+  bounded = λ h k. k;
 }
 counts (k ∷ ks) r =
     let here = fair-step r k in
@@ -156,8 +158,7 @@ counts (k ∷ ks) r =
       writes = omega (arith, here.writes, rest.writes);
       accesses = omega (arith, here.accesses, rest.accesses);
       total = omega (arith, here.total, rest.total);
-      cheap = λ h. omega (arith, here.cheap h, rest.cheap (subst Affordable (sym here.prices) h));
-      few = λ h. rest.few (here.few h);
+      bounded = λ h b. rest.bounded (subst Affordable (sym here.prices) h) (here.bounded h b);
     }
 
 -- the totals that are noted add up
@@ -168,11 +169,6 @@ totals_from (k ∷ ks) r =
     let here = fair-step r k in
     let next = (step r k).run in
     ((step r k).charge, here.cost, here.total, subst (λ w. TotalsFrom w next.tally.total (history next ks) (played next ks).tally.total) here.prices (totals_from ks next))
-
--- at most one
-one-most : (b : Bool) → cond b 1 0 ≤ 1
-one-most true = omega arith
-one-most false = omega arith
 
 pub reported : (cs : List CoreMeaning) (m : MemoryMeaning) (w : Prices) → Affordable w → (ks : List Call) → Reported (opened cs m w) ks
 reported cs m w ok ks =
@@ -185,8 +181,6 @@ reported cs m w ok ks =
       accesses = omega (arith, all.accesses);
       total = omega (arith, all.total);
       totals = totals_from ks r;
-      charges = λ k. omega (arith, (fair-step end k).cheap (subst Affordable (sym all.prices) ok), one-most (is_accepted (word_of (step end k).answer)));
-      most_steps = all.few (omega arith);
-      most_total = omega (arith, all.total, all.steps, all.cheap ok);
-      refused = λ k. (fair-step end k).same;
+      charges = λ k. (fair-step end k).cheap (subst Affordable (sym all.prices) ok);
+      bounded = all.bounded ok (record { steps = omega arith; writes = omega arith; accesses = omega arith; total = omega arith });
     }

@@ -3,6 +3,7 @@ pub mod Tiers
 pub mod Memories
 pub mod Rows
 pub mod Sound
+pub mod Rests
 pub mod Accesses
 pub mod Steps
 pub mod Theorem

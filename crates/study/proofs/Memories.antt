@@ -11,7 +11,7 @@ use Rattle.tier.specs.Options.{none-some}
 use Rattle.memory.specs.declared.refusal.Refusal.TheVariants.{NoSuchBlock}
 use Rattle.memory.specs.Meaning.{MemoryMeaning, MemoryCall, store, stale, size_of, stamp_of, cell_of, block_of, result, Lawful}
 use Rattle.row.specs.Cores.{CoreMeaning, met}
-use Rattle.study.specs.Step.{valid_of, valid, left_as, left, recalled, alone_memory}
+use Rattle.study.specs.Step.{valid_of, valid, memory_taking_as, memory_taking, recalled, alone_memory}
 use Rattle.study.proofs.Block.{Copy, Change, kept, dropped, stored}
 use Rattle.study.proofs.Tiers.{held, Passed, stayed, gone}
 
@@ -59,29 +59,29 @@ module _ (m : MemoryMeaning) (ok : Lawful m) where
       let k = kept-recalled n (met 0 c n cs) in
       valid-named (recalled n (met 0 c n cs) m) k.lawful (stale n) (rw k.size h)
 
-  kept-left : (k : Mark) (n s : ℕ) → Kept n m (left_as k n s m)
+  kept-left : (k : Mark) (n s : ℕ) → Kept n m (memory_taking_as k n s m)
   kept-left Shared n s = kept_still n
   kept-left Modified n s = kept-after (store n s)
 
-  pub left-lawful : (o : Option Line) → Lawful (left o m)
+  pub left-lawful : (o : Option Line) → Lawful (memory_taking o m)
   left-lawful None = ok
   left-lawful (Some g) = (kept-left g.mark g.block g.stamp).lawful
 
-  pub left-size : (o : Option Line) → size_of (left o m) ≡ size_of m
+  pub left-size : (o : Option Line) → size_of (memory_taking o m) ≡ size_of m
   left-size None = refl
   left-size (Some g) = (kept-left g.mark g.block g.stamp).size
 
-  pub left-others : (o : Option Line) (n : ℕ) → ((g : Line) → o ≡ Some g → n ≢ g.block) → valid (left o m) n ≡ valid m n
+  pub left-others : (o : Option Line) (n : ℕ) → ((g : Line) → o ≡ Some g → n ≢ g.block) → valid (memory_taking o m) n ≡ valid m n
   left-others None n f = refl
   left-others (Some g) n f = (kept-left g.mark g.block g.stamp).others n (f g refl)
 
   left-named : (x x' : Option Copy) (k : Mark) (n s : ℕ) → n < size_of m → x ≡ Some (mark_number k, s) → x' ≡ None
-      → Change x x' (valid m n) (valid (left_as k n s m) n)
+      → Change x x' (valid m n) (valid (memory_taking_as k n s m) n)
   left-named x x' Shared n s h e f = dropped s e f refl
   left-named x x' Modified n s h e f = stored s e (λ y r. none-some x' y f r) (valid-named m ok (store n s) h)
 
   -- a block of a tier that has given out a line, and memory when the line has left
   pub left-change : (t t' : TierMeaning) (o : Option Line) (n : ℕ) → ((j : ℕ) (x : Copy) → held t j ≡ Some x → j < size_of m) → Passed t t' o n
-      → Change (held t n) (held t' n) (valid m n) (valid (left o m) n)
+      → Change (held t n) (held t' n) (valid m n) (valid (memory_taking o m) n)
   left-change t t' o n inside (stayed e f) = kept e (left-others o n f)
   left-change t t' o n inside (gone g e q a b) = rw (e, q) (left-named (held t g.block) (held t' g.block) g.mark g.block g.stamp (inside g.block _ a) a b)

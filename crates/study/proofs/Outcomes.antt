@@ -21,12 +21,12 @@ use Rattle.protocol.specs.declared.weights.Movement.{Movement}
 use Rattle.protocol.specs.declared.weights.Movement.TheVariants.{Still, FromLevel, Memory}
 use Rattle.protocol.specs.Accesses.{block_of}
 use Rattle.protocol.specs.Calls.{core_of, fits_in}
-use Rattle.moves.specs.Moves.{put_back_out}
+use Rattle.moves.specs.Moves.{is_modified, put_back_out}
 use Rattle.row.specs.Cores.{CoreMeaning, count_of, tier_at, state_at, met, awaited}
 use Rattle.study.specs.declared.effect.Performed.{Performed}
 use Rattle.study.specs.declared.effect.Performed.TheVariants.{Nothing, Read as ARead, Write as AWrite}
-use Rattle.study.specs.Run.{RunMeaning, Outcome}
-use Rattle.study.specs.Step.{valid, left_as, left, leaving_as, leaving, accepted, refused, provided, brought_up, pushed_out, recalled, alone_memory, is_modified, access_by, access, fetched_line, fetch_by, owed, flush_by, commit_by, act, step}
+use Rattle.study.specs.Run.{RunMeaning, Outcome, most_steps}
+use Rattle.study.specs.Step.{valid, memory_taking_as, memory_taking, movement_as, movement_of, accepted, refused, provided, brought_up, pushed_out, recalled, alone_memory, access_by, access, fetched_line, fetch_by, modified_at, flush_by, commit_by, act, step}
 
 -- what was performed, by the answer
 abbrev pub performed_by : Answer → Performed
@@ -61,16 +61,16 @@ abbrev is_leaving : Option Line → Bool
 is_leaving None = false
 is_leaving (Some g) = is_taken g.mark
 
-leaver : (o : Option Line) → leaving o ≡ cond (is_leaving o) Memory Still
+leaver : (o : Option Line) → movement_of o ≡ cond (is_leaving o) Memory Still
 leaver None = refl
 leaver (Some g) = go g.mark
   where
-    go : (k : Mark) → leaving_as k ≡ cond (is_taken k) Memory Still
+    go : (k : Mark) → movement_as k ≡ cond (is_taken k) Memory Still
     go Shared = refl
     go Modified = refl
 
 -- nothing leaves for a block that is held at level 1
-served : (r : RunMeaning) (c n : ℕ) (h : Holding) → Served (FromLevel h.2) (leaving (pushed_out r c n h))
+served : (r : RunMeaning) (c n : ℕ) (h : Holding) → Served (FromLevel h.2) (movement_of (pushed_out r c n h))
 served r c n h = (h.2, is_leaving (pushed_out r c n h), stays, refl, leaver (pushed_out r c n h))
   where
     stays : h.2 ≡ 1 → is_leaving (pushed_out r c n h) ≡ false
@@ -78,11 +78,11 @@ served r c n h = (h.2, is_leaving (pushed_out r c n h), stays, refl, leaver (pus
 
 -- P holds of a memory after a call, if it held before
 module _ (P : MemoryMeaning → Type 0) (next : (m : MemoryMeaning) (c : MemoryCall) → P m → P (after m c)) where
-  left-keeps : (o : Option Line) (m : MemoryMeaning) → P m → P (left o m)
+  left-keeps : (o : Option Line) (m : MemoryMeaning) → P m → P (memory_taking o m)
   left-keeps None m h = h
   left-keeps (Some g) m h = go g.mark
     where
-      go : (k : Mark) → P (left_as k g.block g.stamp m)
+      go : (k : Mark) → P (memory_taking_as k g.block g.stamp m)
       go Shared = h
       go Modified = next m (store g.block g.stamp) h
 
@@ -96,28 +96,28 @@ module _ (P : MemoryMeaning → Type 0) (next : (m : MemoryMeaning) (c : MemoryC
 
   -- Q holds of each refused call and, where there is room for a step, of each accepted one that leaves such a memory
   module _ (r : RunMeaning) (start : P r.memory) (Q : Outcome → Type 0) (no : (e : Refusal) → Q (refused r e))
-      (yes : r.tally.steps < 1000000 → (cs : List CoreMeaning) (m : MemoryMeaning) → P m
+      (yes : r.tally.steps < most_steps → (cs : List CoreMeaning) (m : MemoryMeaning) → P m
       → (a b : Movement) (x : Answer) → Moved x a b → Q (accepted r cs m (performed_by x) a b x)) where
     if_provided : (b : Bool) (e : Refusal) (o : Outcome) → Q o → Q (provided b e r o)
     if_provided true e o h = h
     if_provided false e o h = no e
 
-    module _ (room : r.tally.steps < 1000000) where
+    module _ (room : r.tally.steps < most_steps) where
       of_access : (c : ℕ) (a : Access) (o : Option Holding) → Q (access_by r c a o)
       of_access c a None = yes room _ _ start Still Still (Waits (block_of a)) (refl, refl)
       of_access c (ToRead n) (Some h) =
           let out = pushed_out r c n h in
-          yes room _ _ (left-keeps out r.memory start) (FromLevel h.2) (leaving out) (WasRead h.1) (served r c n h)
+          yes room _ _ (left-keeps out r.memory start) (FromLevel h.2) (movement_of out) (WasRead h.1) (served r c n h)
       of_access c (ToWrite n) (Some h) =
           let out = pushed_out r c n h in
-          yes room _ _ (alone-keeps (is_modified h) c n (brought_up r c n h) (left out r.memory) (left-keeps out r.memory start))
-          (FromLevel h.2) (leaving out) (Wrote _) (served r c n h)
+          yes room _ _ (alone-keeps (is_modified h) c n (brought_up r c n h) (memory_taking out r.memory) (left-keeps out r.memory start))
+          (FromLevel h.2) (movement_of out) (Wrote _) (served r c n h)
 
       of_fetch : (c : ℕ) (a : Access) (o : Option ℕ) → Q (fetch_by r c a o)
       of_fetch c a None = no StaleBlock
       of_fetch c a (Some s) =
           let out = fetched_line r c a s in
-          yes room _ _ (left-keeps out r.memory start) Memory (leaving out) (Brought (block_of a)) (refl, (is_leaving out, leaver out))
+          yes room _ _ (left-keeps out r.memory start) Memory (movement_of out) (Brought (block_of a)) (refl, (is_leaving out, leaver out))
 
       of_flush : (c n : ℕ) (o : Option ℕ) → Q (flush_by r c n o)
       of_flush c n None = no NotOwed
@@ -143,16 +143,16 @@ module _ (P : MemoryMeaning → Type 0) (next : (m : MemoryMeaning) (c : MemoryC
       of_act (Resume c) Ready = no WrongState
       of_act (Resume c) (Waiting a) = no WrongState
       of_act (Resume c) (Due a) = by_access c a
-      of_act (Flush c n) Ready = of_flush c n (owed r c n)
-      of_act (Flush c n) (Waiting a) = of_flush c n (owed r c n)
-      of_act (Flush c n) (Due a) = of_flush c n (owed r c n)
-      of_act (Commit c n) Ready = of_commit c n (owed r c n)
+      of_act (Flush c n) Ready = of_flush c n (modified_at r c n)
+      of_act (Flush c n) (Waiting a) = of_flush c n (modified_at r c n)
+      of_act (Flush c n) (Due a) = of_flush c n (modified_at r c n)
+      of_act (Commit c n) Ready = of_commit c n (modified_at r c n)
       of_act (Commit c n) (Waiting a) = no WrongState
       of_act (Commit c n) (Due a) = no WrongState
 
     pub of_step : (k : Call) → Q (step r k)
     unfolding step
-    of_step k = go (ltb r.tally.steps 1000000) refl
+    of_step k = go (ltb r.tally.steps most_steps) refl
       where
         past : Outcome
         past =
@@ -160,9 +160,9 @@ module _ (P : MemoryMeaning → Type 0) (next : (m : MemoryMeaning) (c : MemoryC
             (provided (fits_in (size_of r.memory) k) NoSuchBlock r
             (act r k (state_at r.cores (core_of k))))
 
-        go : (b : Bool) → ltb r.tally.steps 1000000 ≡ b → Q (provided b TooManySteps r past)
+        go : (b : Bool) → ltb r.tally.steps most_steps ≡ b → Q (provided b TooManySteps r past)
         go false e = no TooManySteps
         go true e =
             if_provided (ltb (core_of k) (count_of r.cores)) NoSuchCore _
             (if_provided (fits_in (size_of r.memory) k) NoSuchBlock _
-            (of_act (ltb-true r.tally.steps 1000000 e) k (state_at r.cores (core_of k))))
+            (of_act (ltb-true r.tally.steps most_steps e) k (state_at r.cores (core_of k))))

@@ -1,14 +1,20 @@
 -- A row of at most eight cores, by what stands at each place: one core replaced, and one block dropped by all cores but one.
-use Rattle.std.proofs.Common.{◌≡◌, ℕ, zero, suc, ◌+◌, ◌<◌, ◌≤◌, Bool, true, false, cond, ltb, ◌≢◌, List, [], ◌∷◌, length, get_or, set, None, sym, refl, ap, ◌∙◌, ⊎_elim, le_of_suc-le-suc, not-suc-le-zero, arith, length-set, get_or-set_other, get_or-set_same}
+use Rattle.std.proofs.Common.{◌≡◌, ℕ, zero, suc, ◌+◌, ◌<◌, ◌≤◌, Bool, true, false, cond, ltb, ◌&&◌, ◌≢◌, List, [], ◌∷◌, length, get_or, set, None, sym, refl, ap, ◌∙◌, ⊎_elim, le_of_suc-le-suc, not-suc-le-zero, arith, length-set, get_or-set_other, get_or-set_same}
+use mathlib.Core.Bool.{false≢true}
 use native.Mathlib.Decide.{ℕ_discrete}
 use lib.ListN.{get_or-eq_default}
-use Rattle.std.proofs.lemmas.Bool.{cases_lt, lt-ltb, le-ltb, eq-eqb, ne_eqb}
-use Rattle.tier.specs.Meaning.{take, bare, Lawful}
+use Rattle.std.proofs.lemmas.Bool.{cases_lt, lt-ltb, le-ltb, eq-eqb, eqb-true, ne_eqb, or_cases}
+use Rattle.tier.specs.Meaning.{take, look_of, bare, Lawful}
+use Rattle.protocol.specs.declared.access.Access.{Access}
 use Rattle.protocol.specs.declared.access.CoreState.{CoreState}
+use Rattle.protocol.specs.declared.access.CoreState.TheVariants.{Ready, Waiting, Due}
+use Rattle.protocol.specs.Accesses.{block_of}
+use Rattle.moves.specs.Moves.{modified_stamp}
 use Rattle.row.specs.declared.operation.Operation.{Operation}
-use Rattle.row.specs.Cores.{CoreMeaning, core, absent, core_at, place, tier_at, state_at, turned, operated, done, reaches, dropped, invalidated}
+use Rattle.row.specs.Cores.{CoreMeaning, core, absent, core_at, place, tier_at, state_at, turned, operated, done, reaches, dropped, invalidated, later, met_by, met, awaits, awaited}
 use Rattle.study.specs.Step.{alone_cores}
 use Rattle.study.specs.Coherence.{copy_of}
+use Rattle.study.specs.Told.{Wanted}
 use Rattle.study.proofs.Tiers.{held, lawful-after}
 
 -- in a row of at most eight, every core is at its place
@@ -24,6 +30,10 @@ past cs d h le = at_place cs d h ∙ get_or-eq_default cs absent le
 pub absent-holds : (n : ℕ) → held absent.tier n ≡ None
 unfolding absent
 absent-holds n = refl
+
+pub absent_shows : (n : ℕ) → look_of absent.tier n ≡ None
+unfolding absent
+absent_shows n = refl
 
 -- a row with x as core c, and else as it was
 pub record Replaced (cs cs' : List CoreMeaning) (c : ℕ) (x : CoreMeaning) : Type 0 where
@@ -131,3 +141,56 @@ pub alone : (b : Bool) (cs : List CoreMeaning) (c n : ℕ) → length cs ≤ 8 �
     → (b ≡ true → (d : ℕ) → d ≢ c → held (tier_at cs d) n ≡ None) → Alone cs (alone_cores b c n cs) c n
 alone true cs c n short ok own = record { size = refl; here = refl; there = λ d ne. drops_none n (core_at cs d) (own refl d ne) }
 alone false cs c n short ok own = record { size = invalidated-size 0 c n cs; here = sender_same cs short c n; there = others_drop cs short c n ok }
+
+-- a message reaches no core that sent it
+apart : (i c : ℕ) → reaches c i ≡ true → i ≢ c
+apart i c q e = false≢true (sym (ap (λ b. cond b false (ltb i 8)) (eq-eqb i c e)) ∙ q)
+
+-- no core but the sender has a modified copy: a message meets none
+pub met-none : (i c n : ℕ) (cs : List CoreMeaning) → ((d j : ℕ) → j ≡ i + d → j ≢ c → d < length cs → modified_stamp (look_of (get_or cs d absent).tier n) ≡ None) → met i c n cs ≡ None
+unfolding met
+met-none i c n [] f = refl
+met-none i c n (x ∷ xs) f =
+    let rest : met (suc i) c n xs ≡ None = met-none (suc i) c n xs (λ d j e ne h. f (suc d) j (omega arith) ne (omega arith)) in
+    let here : met_by (reaches c i) n x ≡ None = go (reaches c i) refl in
+    (λ k. later (here k) (rest k))
+  where
+    go : (b : Bool) → reaches c i ≡ b → met_by b n x ≡ None
+    go false q = refl
+    go true q = f 0 i (omega arith) (apart i c q) (omega arith)
+
+-- a core that waits for block n, in a row whose cores are numbered from i
+record WaitsAt (i c n : ℕ) (cs : List CoreMeaning) : Type 0 where
+  d : ℕ
+  below : d < length cs
+  other : i + d ≢ c
+  access : Access
+  state : (get_or cs d absent).state ≡ Waiting access
+  block : block_of access ≡ n
+
+awaiting : (i c n : ℕ) (cs : List CoreMeaning) → awaited i c n cs ≡ true → WaitsAt i c n cs
+unfolding awaited
+awaiting i c n [] e = absurd (false≢true e)
+awaiting i c n (x ∷ xs) e = ⊎_elim (here (reaches c i) refl x.state refl) (λ q. next (awaiting (suc i) c n xs q)) (or_cases (reaches c i && awaits n x.state) (awaited (suc i) c n xs) e)
+  where
+    here : (b : Bool) → reaches c i ≡ b → (s : CoreState) → x.state ≡ s → (b && awaits n s) ≡ true → WaitsAt i c n (x ∷ xs)
+    here false q s p z = absurd (false≢true z)
+    here true q Ready p z = absurd (false≢true z)
+    here true q (Due a) p z = absurd (false≢true z)
+    here true q (Waiting a) p z =
+        let ne = apart i c q in
+        record { d = 0; below = omega arith; other = λ y. ne (omega (arith, y)); access = a; state = p; block = eqb-true (block_of a) n z }
+
+    next : WaitsAt (suc i) c n xs → WaitsAt i c n (x ∷ xs)
+    next W = record { d = suc W.d; below = omega (arith, W.below); other = λ q. W.other (omega (arith, q)); access = W.access; state = W.state; block = W.block }
+
+pub wanted : (cs : List CoreMeaning) (c n : ℕ) → length cs ≤ 8 → awaited 0 c n cs ≡ true → Wanted c n cs
+wanted cs c n short e =
+    let W : WaitsAt 0 c n cs = awaiting 0 c n cs e in
+    record {
+      core = W.d;
+      other = λ q. W.other (omega (arith, q));
+      wanted = W.access;
+      waits = ap (λ (x : CoreMeaning). x.state) (at_place cs W.d short) ∙ W.state;
+      block = W.block;
+    }

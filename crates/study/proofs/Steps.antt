@@ -1,5 +1,5 @@
 -- Every step keeps what is known of a run, and its answer is honest.
-use Rattle.std.proofs.Common.{◌≡◌, ℕ, ◌<◌, Bool, true, false, cond, eqb, ltb, List, length, Some, None, Option, sym, refl, ap, ◌∙◌, add-zero, arith}
+use Rattle.std.proofs.Common.{◌≡◌, ℕ, ◌<◌, Bool, true, false, cond, eqb, ltb, List, [], length, Some, None, Option, sym, refl, ap, ◌∙◌, add-zero, arith}
 use native.Mathlib.Decide.{ℕ_discrete}
 use Rattle.std.proofs.lemmas.Bool.{ltb-true, eqb-true}
 use Rattle.std.proofs.lemmas.Option.{same_Some}
@@ -24,16 +24,18 @@ use Rattle.protocol.specs.Accesses.{block_of}
 use Rattle.protocol.specs.Calls.{core_of, fits_in}
 use Rattle.moves.specs.Moves.{given, modified_stamp}
 use Rattle.row.specs.declared.operation.Operation.TheVariants.{Put, Change as ToChange}
-use Rattle.row.specs.Cores.{CoreMeaning, core, count_of, core_at, tier_at, state_at, awaited}
-use Rattle.study.specs.Run.{RunMeaning, Outcome}
-use Rattle.study.specs.Step.{valid, left, refused, provided, access, fetching, fetch_by, fetch, cleaning, owed, flush_by, flush, commit_by, commit, act, step}
+use Rattle.row.specs.Cores.{CoreMeaning, core, count_of, core_at, tier_at, state_at, done, awaited}
+use Rattle.study.specs.Run.{RunMeaning, Outcome, most_steps}
+use Rattle.study.specs.Step.{valid, memory_taking, refused, provided, access, fetching, fetch_by, fetch, cleaning, modified_at, flush_by, flush, commit_by, commit, act, step}
 use Rattle.study.specs.Book.{Book, but, asking}
 use Rattle.study.specs.Coherence.{copy_of}
+use Rattle.study.specs.Told.{Asks, NowClean}
 use Rattle.study.proofs.Block.{Copy, shared, modified, Change, kept, joined, stored}
 use Rattle.study.proofs.Tiers.{held, lawful-after, put_holds, put-stays, put-passes, change-holds, change-others}
 use Rattle.study.proofs.Memories.{Kept, kept-after, valid-named, left-lawful, left-size, left-others, left-change}
-use Rattle.study.proofs.Rows.{operated_on, turned-done}
+use Rattle.study.proofs.Rows.{Replaced, copy_here, operated_on, turned-done, wanted}
 use Rattle.study.proofs.Sound.{Sound, but_same, but-other, inside, change-sound}
+use Rattle.study.proofs.Rests.{rest-of}
 use Rattle.study.proofs.Accesses.{Stands, Inv, Good, silent, stands-less, stands_replaced, Credits, resume_credits, access-good}
 
 -- a stamp that is owed is that of a modified copy
@@ -45,6 +47,19 @@ owed_held (Some h) s e = go (eqb h.0 1) refl e
     go true q z = let p = eqb-true h.0 1 q in let p' : h.1 ≡ s = same_Some h.1 s z in rw (p, p')
     go false q z = never s z
 
+-- a copy stands at some level
+level_of : (o : Option Holding) (x : Copy) → bare o ≡ Some x → (l : ℕ) × (o ≡ Some (x.0, x.1, l))
+level_of None x e = never x e
+level_of (Some h) x e = (h.2, ap (λ (y : Copy). Some (y.0, y.1, h.2)) (same_Some (h.0, h.1) x e))
+
+-- what is not owed is not modified
+not_owed : (o : Option Holding) (s : ℕ) → modified_stamp o ≡ None → bare o ≡ Some (modified s) → ⊥
+not_owed None s e x = never (modified s) x
+not_owed (Some h) s e x =
+    let p = same_Some (h.0, h.1) (modified s) x in
+    let z : h.0 ≡ 1 = ap (λ (y : Copy). y.0) p in
+    never h.1 (sym e ∙ ap (λ i. cond (eqb i 1) (Some h.1) None) z)
+
 module _ (r : RunMeaning) (b : Book) (I : Inv r b) where
   abbrev cs : List CoreMeaning
   cs = r.cores
@@ -55,23 +70,23 @@ module _ (r : RunMeaning) (b : Book) (I : Inv r b) where
   S : Sound cs m b.number
   S = I.sound
 
-  refused-good : (k : Call) (e : Refusal) → Good b k (refused r e)
-  refused-good k e = record { inv = I; honest = silent }
+  refused-good : (k : Call) (e : Refusal) → Good r b k (refused r e)
+  refused-good k e = record { inv = I; told = refl; honest = silent }
 
-  provided-good : (k : Call) (x : Bool) (e : Refusal) (o : Outcome) → (x ≡ true → Good b k o) → Good b k (provided x e r o)
+  provided-good : (k : Call) (x : Bool) (e : Refusal) (o : Outcome) → (x ≡ true → Good r b k o) → Good r b k (provided x e r o)
   provided-good k true e o f = f refl
   provided-good k false e o f = refused-good k e
 
   -- an access that the call names, and one that was due
-  named-good : (k : Call) (a : Access) → Credits k a → asking k b.asked ≡ but b.asked (core_of k) (block_of a) → core_of k < length cs → block_of a < size_of m
-      → Good b k (access r (core_of k) a)
-  named-good k a w q lt h =
-      access-good r b k S lt (λ d ne. rw (q, but-other b.asked (core_of k) (block_of a) d ne) (I.states d)) I.count a w h (rw (q, but_same b.asked (core_of k) (block_of a)))
+  named-good : (k : Call) (a : Access) → Asks k (state_at cs (core_of k)) a → Credits k a → asking k b.asked ≡ but b.asked (core_of k) (block_of a) → core_of k < length cs → block_of a < size_of m
+      → Good r b k (access r (core_of k) a)
+  named-good k a asks w q lt h =
+      access-good r b k S lt (λ d ne. rw (q, but-other b.asked (core_of k) (block_of a) d ne) (I.states d)) I.count a asks w h (rw (q, but_same b.asked (core_of k) (block_of a)))
 
-  resume_good : (c : ℕ) (a : Access) → c < length cs → state_at cs c ≡ Due a → Good b (Resume c) (access r c a)
+  resume_good : (c : ℕ) (a : Access) → c < length cs → state_at cs c ≡ Due a → Good r b (Resume c) (access r c a)
   resume_good c a lt e =
       let W : Stands (size_of m) (b.asked c) (core (tier_at cs c) (Due a)) = rw e at (I.states c) in
-      access-good r b (Resume c) S lt (λ d ne. I.states d) I.count a (resume_credits c a) W.0 W.1
+      access-good r b (Resume c) S lt (λ d ne. I.states d) I.count a e (resume_credits c a) W.0 W.1
 
   -- core c
   module _ (c : ℕ) (lt : c < length cs) where
@@ -95,13 +110,13 @@ module _ (r : RunMeaning) (b : Book) (I : Inv r b) where
       free : look_of t n ≡ None
       free = bare-none (look_of t n) stands.2
 
-      joins : (j : ℕ) → Change (copy_of cs c j) (held (after t (put n Shared s)) j) (valid m j) (valid (left out m) j)
+      joins : (j : ℕ) → Change (copy_of cs c j) (held (after t (put n Shared s)) j) (valid m j) (valid (memory_taking out m) j)
       joins j = elim (ℕ_discrete j n) [
         | yes q ↦ rw q (joined s v (put_holds t ok n Shared s free) (left-others m S.memory out n (put-stays t ok n Shared s free)))
         | no ne ↦ left-change m S.memory t _ out j (inside cs m b.number S c) (put-passes t ok n Shared s free j ne)
       ]
 
-      fetching-good : Good b (Fetch c) (fetching r c a s)
+      fetching-good : Good r b (Fetch c) (fetching r c a s)
       fetching-good =
           let R = turned-done cs c (Put (line n Shared s)) (Due a) S.short lt in
           record {
@@ -110,13 +125,29 @@ module _ (r : RunMeaning) (b : Book) (I : Inv r b) where
               states = stands_replaced _ _ b.asked cs _ c _ R (left-size m S.memory out) (λ d ne. I.states d) (stands.0, stands.1);
               count = add-zero _ ∙ I.count;
             };
+            told = (
+              refl,
+              record {
+                wanted = a;
+                waited = e;
+                block = refl;
+                stamp = s;
+                stored = v;
+                memory = left-others m S.memory out n (put-stays t ok n Shared s free) ∙ v;
+                holds = ap (λ (x : CoreMeaning). look_of x.tier n) R.here ∙ (ok []).put_in n Shared s free;
+                due = ap (λ (x : CoreMeaning). x.state) R.here;
+                others = R.there;
+                rest = rest-of r _ c n (after t (put n Shared s)) out S.memory (inside cs m b.number S c) (λ j ne. copy_here cs _ c _ R j) (λ j ne. refl)
+                    (λ j ne. put-passes t ok n Shared s free j ne) (put-stays t ok n Shared s free);
+              },
+            );
             honest = silent;
           }
 
-    fetch-good : (a : Access) → state_at cs c ≡ Waiting a → Good b (Fetch c) (fetch r c a)
+    fetch-good : (a : Access) → state_at cs c ≡ Waiting a → Good r b (Fetch c) (fetch r c a)
     fetch-good a e = go (valid m (block_of a)) refl
       where
-        go : (o : Option ℕ) → valid m (block_of a) ≡ o → Good b (Fetch c) (fetch_by r c a o)
+        go : (o : Option ℕ) → valid m (block_of a) ≡ o → Good r b (Fetch c) (fetch_by r c a o)
         go None v = refused-good (Fetch c) StaleBlock
         go (Some s) v = fetching-good a s e v
 
@@ -135,9 +166,28 @@ module _ (r : RunMeaning) (b : Book) (I : Inv r b) where
         | no ne ↦ kept (change-others t ok n Shared s j ne) (K.others j ne)
       ]
 
+      abbrev cs' : List CoreMeaning
+      cs' = done cs c (ToChange (line n Shared s))
+
+      R : Replaced cs cs' c (core t' (state_at cs c))
+      R = operated_on cs c (ToChange (line n Shared s)) (core_at cs c) refl S.short lt
+
+      cleaned : (x : Answer) → NowClean c n r (cleaning r c n s x).run
+      cleaned x =
+          let held = level_of (look_of t n) (modified s) e in
+          record {
+            stamp = s;
+            level = held.0;
+            held = held.1;
+            holds = ap (λ (x : CoreMeaning). look_of x.tier n) R.here ∙ (ok []).change_in n Shared s _ held.1;
+            memory = valid-named m S.memory (store n s) (inside cs m b.number S c n (modified s) e);
+            state = ap (λ (x : CoreMeaning). x.state) R.here;
+            others = R.there;
+            rest = λ j ne. (copy_here cs cs' c _ R j ∙ change-others t ok n Shared s j ne, K.others j ne);
+          }
+
       cleaning-keeps : (x : Answer) → Inv (cleaning r c n s x).run b
       cleaning-keeps x =
-          let R = operated_on cs c (ToChange (line n Shared s)) (core_at cs c) refl S.short lt in
           record {
             sound = change-sound cs m b.number S _ _ c _ R (lawful-after t (change n Shared s) ok) K.lawful refl cleans;
             states = stands_replaced _ _ b.asked cs _ c _ R refl (λ d ne. I.states d) (stands-less _ _ t t' (state_at cs c) less (I.states c));
@@ -147,26 +197,26 @@ module _ (r : RunMeaning) (b : Book) (I : Inv r b) where
           less : (j : ℕ) → held t j ≡ None → held t' j ≡ None
           less j z = change-others t ok n Shared s j (λ q. none-some (held t n) (modified s) (sym (ap (held t) q) ∙ z) e) ∙ z
 
-    flush-good : (n : ℕ) → Good b (Flush c n) (flush r c n)
-    flush-good n = go (owed r c n) refl
+    flush-good : (n : ℕ) → Good r b (Flush c n) (flush r c n)
+    flush-good n = go (modified_at r c n) refl
       where
-        go : (o : Option ℕ) → owed r c n ≡ o → Good b (Flush c n) (flush_by r c n o)
+        go : (o : Option ℕ) → modified_at r c n ≡ o → Good r b (Flush c n) (flush_by r c n o)
         go None e = refused-good (Flush c n) NotOwed
         go (Some s) e = provided-good (Flush c n) (awaited 0 c n cs) NotOwed _
-            (λ x. record { inv = cleaning-keeps n s (owed_held _ s e) (Flushed n); honest = silent })
+            (λ x. record { inv = cleaning-keeps n s (owed_held _ s e) (Flushed n); told = (refl, wanted cs c n S.short x, cleaned n s (owed_held _ s e) (Flushed n)); honest = silent })
 
-    commit-good : (n : ℕ) → Good b (Commit c n) (commit r c n)
-    commit-good n = go (owed r c n) refl
+    commit-good : (n : ℕ) → Good r b (Commit c n) (commit r c n)
+    commit-good n = go (modified_at r c n) refl
       where
-        go : (o : Option ℕ) → owed r c n ≡ o → Good b (Commit c n) (commit_by r c n o)
-        go None e = record { inv = record { sound = S; states = I.states; count = add-zero _ ∙ I.count }; honest = silent }
-        go (Some s) e = record { inv = cleaning-keeps n s (owed_held _ s e) (Committed true); honest = silent }
+        go : (o : Option ℕ) → modified_at r c n ≡ o → Good r b (Commit c n) (commit_by r c n o)
+        go None e = record { inv = record { sound = S; states = I.states; count = add-zero _ ∙ I.count }; told = (n, refl, ((λ s x. not_owed (look_of t n) s e x), refl, refl)); honest = silent }
+        go (Some s) e = record { inv = cleaning-keeps n s (owed_held _ s e) (Committed true); told = (n, refl, cleaned n s (owed_held _ s e) (Committed true)); honest = silent }
 
-  act-good : (k : Call) → core_of k < length cs → fits_in (size_of m) k ≡ true → (s : CoreState) → state_at cs (core_of k) ≡ s → Good b k (act r k s)
-  act-good (Read c n) lt h Ready e = named-good (Read c n) (ToRead n) tt refl lt (ltb-true n (size_of m) h)
+  act-good : (k : Call) → core_of k < length cs → fits_in (size_of m) k ≡ true → (s : CoreState) → state_at cs (core_of k) ≡ s → Good r b k (act r k s)
+  act-good (Read c n) lt h Ready e = named-good (Read c n) (ToRead n) (e, refl) tt refl lt (ltb-true n (size_of m) h)
   act-good (Read c n) lt h (Waiting a) e = refused-good (Read c n) WrongState
   act-good (Read c n) lt h (Due a) e = refused-good (Read c n) WrongState
-  act-good (Write c n) lt h Ready e = named-good (Write c n) (ToWrite n) refl refl lt (ltb-true n (size_of m) h)
+  act-good (Write c n) lt h Ready e = named-good (Write c n) (ToWrite n) (e, refl) refl refl lt (ltb-true n (size_of m) h)
   act-good (Write c n) lt h (Waiting a) e = refused-good (Write c n) WrongState
   act-good (Write c n) lt h (Due a) e = refused-good (Write c n) WrongState
   act-good (Fetch c) lt h Ready e = refused-good (Fetch c) WrongState
@@ -182,10 +232,10 @@ module _ (r : RunMeaning) (b : Book) (I : Inv r b) where
   act-good (Commit c n) lt h (Waiting a) e = refused-good (Commit c n) WrongState
   act-good (Commit c n) lt h (Due a) e = refused-good (Commit c n) WrongState
 
-  pub step-good : (k : Call) → Good b k (step r k)
+  pub step-good : (k : Call) → Good r b k (step r k)
   unfolding step
   step-good k =
-      provided-good k (ltb r.tally.steps 1000000) TooManySteps _ λ x.
+      provided-good k (ltb r.tally.steps most_steps) TooManySteps _ λ x.
       provided-good k (ltb (core_of k) (count_of cs)) NoSuchCore _ λ y.
       provided-good k (fits_in (size_of m) k) NoSuchBlock _ λ z.
       let lt : core_of k < length cs = omega (arith, ltb-true _ _ y) in

@@ -1,24 +1,29 @@
 -- After any calls, cores and memory are coherent and every read was honest.
-use Rattle.std.proofs.Common.{◌≡◌, ℕ, zero, suc, ◌<◌, ◌≤◌, List, [], ◌∷◌, length, get_or, Some, None, Option, sym, refl, ap, ◌∙◌, subst, le_of_suc-le-suc, not-suc-le-zero, arith}
+use Rattle.std.proofs.Common.{◌≡◌, ℕ, zero, suc, ◌+◌, ◌<◌, ◌≤◌, false, cond, eqb, ◌≢◌, ⊎_elim, List, [], ◌∷◌, length, get_or, Some, None, Option, sym, refl, ap, ◌∙◌, subst, le_of_suc-le-suc, not-suc-le-zero, arith}
+use mathlib.Core.Bool.{false≢true}
 use native.Mathlib.Decide.{ℕ_discrete}
-use Rattle.tier.specs.Meaning.{clear, bare, Lawful as LawfulTier}
-use Rattle.tier.specs.Options.{none-some}
+use Rattle.std.proofs.lemmas.Bool.{cases_lt}
+use Rattle.tier.specs.Meaning.{clear, Holding, look_of, bare, Lawful as LawfulTier}
+use Rattle.tier.specs.Options.{never, none-some}
 use Rattle.memory.specs.Meaning.{MemoryMeaning, store, size_of, Lawful as LawfulMemory}
 use Rattle.protocol.specs.declared.access.CoreState.TheVariants.{Ready}
 use Rattle.protocol.specs.declared.call.Call.{Call}
 use Rattle.protocol.specs.Answers.{word_of}
 use Rattle.protocol.specs.declared.weights.Prices.{Prices}
-use Rattle.row.specs.Cores.{CoreMeaning, absent, count_of, core_at, renewed, AllLawful}
+use Rattle.moves.specs.Moves.{is_modified, modified_stamp, raised}
+use Rattle.row.specs.declared.operation.Operation.TheVariants.{BringUp}
+use Rattle.row.specs.Cores.{CoreMeaning, core, absent, count_of, core_at, tier_at, met, renewed, AllLawful}
 use Rattle.study.specs.Run.{RunMeaning}
-use Rattle.study.specs.Step.{valid, step}
+use Rattle.study.specs.Step.{valid, brought_up, step}
 use Rattle.study.specs.Opening.{zeroed, opened}
 use Rattle.study.specs.Play.{played, history}
 use Rattle.study.specs.Book.{Book, new_book, noted, HonestFrom}
-use Rattle.study.specs.Coherence.{copy_of, Coherent}
-use Rattle.study.proofs.Block.{Copy, modified, Consistent, clean, owned, owner, stamped}
+use Rattle.study.specs.Coherence.{copy_of, Coherent, Unmet}
+use Rattle.study.specs.Told.{Tells}
+use Rattle.study.proofs.Block.{Copy, shared, modified, AtMostShared, Consistent, clean, owned, owner, sharer, stamped}
 use Rattle.study.proofs.Tiers.{held, lawful-after}
 use Rattle.study.proofs.Memories.{valid-named, valid-others}
-use Rattle.study.proofs.Rows.{at_place, absent-holds}
+use Rattle.study.proofs.Rows.{at_place, past, absent-holds, absent_shows, Replaced, turned-done, met-none}
 use Rattle.study.proofs.Sound.{Sound, inside}
 use Rattle.study.proofs.Accesses.{Inv}
 use Rattle.study.proofs.Steps.{step-good}
@@ -111,19 +116,74 @@ module _ (cs : List CoreMeaning) (m : MemoryMeaning) (w : Prices) (few : count_o
         count = refl;
       }
 
-played-coherent : (ks : List Call) (r : RunMeaning) (b : Book) → Inv r b → Coherent (played r ks).cores (played r ks).memory
+-- what is known of a run is known after any calls
+played-inv : (ks : List Call) (r : RunMeaning) (b : Book) → Inv r b → (b' : Book) × Inv (played r ks) b'
 unfolding played
-played-coherent [] r b I = coherent r.cores r.memory b.number I.sound
-played-coherent (k ∷ ks) r b I = played-coherent ks (step r k).run (noted b k (word_of (step r k).answer)) (step-good r b I k).inv
+played-inv [] r b I = (b, I)
+played-inv (k ∷ ks) r b I = played-inv ks (step r k).run (noted b k (word_of (step r k).answer)) (step-good r b I k).inv
 
 played-honest : (ks : List Call) (r : RunMeaning) (b : Book) → Inv r b → HonestFrom b (history r ks)
 unfolding history HonestFrom
 played-honest [] r b I = tt
 played-honest (k ∷ ks) r b I = ((step-good r b I k).honest, played-honest ks (step r k).run (noted b k (word_of (step r k).answer)) (step-good r b I k).inv)
 
--- for any lawful tiers of at most eight cores, any lawful memory and any calls
-pub coherence : (cs : List CoreMeaning) (m : MemoryMeaning) (w : Prices) → count_of cs ≤ 8 → AllLawful cs → LawfulMemory m → (ks : List Call)
-    → Coherent (played (opened cs m w) ks).cores (played (opened cs m w) ks).memory × HonestFrom new_book (history (opened cs m w) ks)
-coherence cs m w few ok okm ks =
-    let I : Inv (opened cs m w) new_book = opened-inv cs m w few ok okm in
-    (played-coherent ks (opened cs m w) new_book I, played-honest ks (opened cs m w) new_book I)
+-- where one copy is shared, no copy is modified
+at_most : (k : ℕ) (o : Option Holding) → AtMostShared k (bare o) → modified_stamp o ≡ None
+at_most k None f = refl
+at_most k (Some h) f =
+    let z : h.0 ≡ 0 = ap (λ (y : Copy). y.0) (f (h.0, h.1) refl) in
+    ap (λ i. cond (eqb i 1) (Some h.1) None) z
+
+unmodified : (i : ℕ) → i ≤ 1 → eqb i 1 ≡ false → i ≡ 0
+unmodified zero h e = refl
+unmodified (suc zero) h e = absurd (false≢true (sym e))
+unmodified (suc (suc i)) h e = absurd (omega arith)
+
+module _ (r : RunMeaning) (b : Book) (I : Inv r b) (c n : ℕ) (h : Holding) (e : look_of (tier_at r.cores c) n ≡ Some h) where
+  abbrev S : Sound r.cores r.memory b.number
+  S = I.sound
+
+  abbrev cs₁ : List CoreMeaning
+  cs₁ = brought_up r c n h
+
+  there : c < length r.cores
+  there = ⊎_elim (λ l. l) (λ l. never h (sym (ap (λ (x : CoreMeaning). look_of x.tier n) (past r.cores c S.short l) ∙ absent_shows n) ∙ e)) (cases_lt c (length r.cores))
+
+  replaced : Replaced r.cores cs₁ c (core (raised (tier_at r.cores c) n h) Ready)
+  replaced = turned-done r.cores c (BringUp n h) Ready S.short there
+
+  unmet-here : is_modified h ≡ false → met 0 c n cs₁ ≡ None
+  unmet-here f = met-none 0 c n cs₁ (λ d j q ne lt. at_most (b.number n) _ (other d j q ne lt))
+    where
+      shared-here : copy_of r.cores c n ≡ Some (shared h.1)
+      shared-here = ap bare e ∙ ap (λ i. Some (i, h.1)) (unmodified h.0 ((S.tiers c there []).marks n h e) f)
+
+      all : (d : ℕ) → AtMostShared (b.number n) (copy_of r.cores d n)
+      all = (sharer (b.number n) _ _ c h.1 shared-here (S.blocks n (inside r.cores r.memory b.number S c n _ shared-here))).1
+
+      other : (d j : ℕ) → j ≡ 0 + d → j ≢ c → d < length cs₁ → AtMostShared (b.number n) (held (get_or cs₁ d absent).tier n)
+      other d j q ne lt = subst (λ (x : CoreMeaning). AtMostShared (b.number n) (held x.tier n))
+          (sym (replaced.there d (λ z. ne (omega (arith, q, z)))) ∙ at_place cs₁ d (rw replaced.size S.short)) (all d)
+
+-- of any lawful tiers of at most eight cores, any lawful memory and any calls
+module _ (cs : List CoreMeaning) (m : MemoryMeaning) (w : Prices) (few : count_of cs ≤ 8) (ok : AllLawful cs) (okm : LawfulMemory m) where
+  start : Inv (opened cs m w) new_book
+  start = opened-inv cs m w few ok okm
+
+  at_end : (ks : List Call) → (b : Book) × Inv (played (opened cs m w) ks) b
+  at_end ks = played-inv ks (opened cs m w) new_book start
+
+  pub zeros : (n : ℕ) → n < size_of m → valid (opened cs m w).memory n ≡ Some 0
+  zeros = (zeroes (size_of m) m okm (omega arith)).zeros
+
+  pub told : (ks : List Call) (k : Call) → Tells (played (opened cs m w) ks) k
+  told ks k = (step-good _ (at_end ks).0 (at_end ks).1 k).told
+
+  pub coherence : (ks : List Call) → Coherent (played (opened cs m w) ks).cores (played (opened cs m w) ks).memory
+  coherence ks = coherent _ _ _ (at_end ks).1.sound
+
+  pub unmet : (ks : List Call) → Unmet (played (opened cs m w) ks)
+  unmet ks c n h = unmet-here _ (at_end ks).0 (at_end ks).1 c n h
+
+  pub honest : (ks : List Call) → HonestFrom new_book (history (opened cs m w) ks)
+  honest ks = played-honest ks (opened cs m w) new_book start

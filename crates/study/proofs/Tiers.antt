@@ -1,5 +1,5 @@
 -- The copies that a tier holds after a put, after a block is brought up, and after a change.
-use Rattle.std.proofs.Common.{◌≡◌, ℕ, zero, suc, ◌≤◌, Bool, true, false, cond, eqb, ◌≢◌, [], ◌∷◌, Some, None, Ok, Err, Option, sym, refl, ap, ◌∙◌, subst, arith}
+use Rattle.std.proofs.Common.{◌≡◌, ℕ, Bool, true, false, cond, eqb, ◌≢◌, [], ◌∷◌, Some, None, Ok, Err, Option, sym, refl, ap, ◌∙◌, subst, arith}
 use native.Mathlib.Decide.{ℕ_discrete}
 use Rattle.device.specs.Device.{after}
 use Rattle.parts.specs.declared.mark.Mark.{Mark}
@@ -9,6 +9,7 @@ use Rattle.parts.specs.Marks.{mark_number, mark_of}
 use Rattle.tier.specs.Meaning.{TierMeaning, TierCall, put, take, change, touch, Holding, look_of, out_of, if_held, put_answer, bare, Lawful}
 use Rattle.tier.specs.Options.{never, none-some}
 use Rattle.moves.specs.Moves.{given, put_back, put_back_out, raised, raised_out}
+use Rattle.moves.proofs.Raising.{mark_of_number}
 use Rattle.study.proofs.Block.{Copy}
 
 -- the copy of block n
@@ -50,12 +51,6 @@ pub record Raised (t t' : TierMeaning) (o : Option Line) (n : ℕ) (x : Copy) : 
   pub lawful : Lawful t'
   pub passed : (j : ℕ) → Passed t t' o j
   pub holds : held t' n ≡ Some x
-
--- a mark's number tells the mark
-mark_of_lem : (i : ℕ) → i ≤ 1 → (k : Mark) × (mark_of i ≡ Some k) × (mark_number k ≡ i)
-mark_of_lem zero h = (_, refl, refl)
-mark_of_lem (suc zero) h = (_, refl, refl)
-mark_of_lem (suc (suc i)) h = absurd (omega arith)
 
 module _ (t : TierMeaning) (ok : Lawful t) (n : ℕ) (h : Holding) (e : look_of t n ≡ Some h) where
   touched : Raised t (after t (touch n)) None n (h.0, h.1)
@@ -103,7 +98,7 @@ module _ (t : TierMeaning) (ok : Lawful t) (n : ℕ) (h : Holding) (e : look_of 
   raises = go (eqb h.2 1)
     where
       marked : (k : Mark) × (mark_of h.0 ≡ Some k) × (mark_number k ≡ h.0)
-      marked = mark_of_lem h.0 ((ok []).marks n h e)
+      marked = mark_of_number h.0 ((ok []).marks n h e)
 
       low : Raised t (put_back t n (mark_of h.0) h.1) (put_back_out t n (mark_of h.0) h.1) n (h.0, h.1)
       low = subst (λ o. Raised t (put_back t n o h.1) (put_back_out t n o h.1) n (h.0, h.1)) (sym marked.1) (put_again marked.0 marked.2)

@@ -1,12 +1,14 @@
 -- Coherence: what cores and memory have of each block agrees.
-use Rattle.std.specs.Prelude.{◌≡◌, ℕ, ◌<◌, ◌≢◌, List, Some, None, Option}
+use Rattle.std.specs.Prelude.{◌≡◌, ℕ, ◌<◌, ◌≢◌, false, List, Some, None, Option}
 use Rattle.parts.specs.declared.mark.Mark.{Mark}
 use Rattle.parts.specs.declared.mark.Mark.TheVariants.{Modified}
 use Rattle.parts.specs.Marks.{mark_number}
-use Rattle.tier.specs.Meaning.{look_of, bare}
+use Rattle.tier.specs.Meaning.{Holding, look_of, bare}
 use Rattle.memory.specs.Meaning.{MemoryMeaning, size_of}
-use Rattle.row.specs.Cores.{CoreMeaning, tier_at}
-use Rattle.study.specs.Step.{valid}
+use Rattle.moves.specs.Moves.{is_modified}
+use Rattle.row.specs.Cores.{CoreMeaning, tier_at, met}
+use Rattle.study.specs.Run.{RunMeaning}
+use Rattle.study.specs.Step.{valid, brought_up}
 
 -- the copy that core c has of block n: the number of its mark, and its stamp
 abbrev pub copy_of : List CoreMeaning → ℕ → ℕ → Option (ℕ × ℕ)
@@ -34,3 +36,7 @@ pub record Coherent (cs : List CoreMeaning) (m : MemoryMeaning) : Type 0 where
       → (i : ℕ) × (valid m n ≡ Some i) × ((c s : ℕ) → Has cs c n s → s ≡ i)
   -- no core holds a block that the memory lacks
   pub inside : (n c s : ℕ) → Has cs c n s → n < size_of m
+
+-- the message by which a core becomes the only holder of a block that it holds shared meets no modified copy
+abbrev pub Unmet : RunMeaning → Type 0
+Unmet r = (c n : ℕ) (h : Holding) → look_of (tier_at r.cores c) n ≡ Some h → is_modified h ≡ false → met 0 c n (brought_up r c n h) ≡ None

@@ -1,15 +1,14 @@
 -- What a reader of the report can check, over whole schedules.
-use Rattle.std.specs.Prelude.{◌≡◌, ℕ, ◌+◌, ◌*◌, ◌≤◌, Bool, false, cond, List, [], ◌∷◌, Some, None, Ok, Err, Option, Result}
+use Rattle.std.specs.Prelude.{◌≡◌, ℕ, ◌+◌, ◌≤◌, Bool, false, cond, List, [], ◌∷◌, Some, None, Ok, Err, Option, Result}
 use Rattle.protocol.specs.declared.answer.Answer.{Answer}
 use Rattle.protocol.specs.declared.answer.Answer.TheVariants.{Waits, Brought, Read, Wrote, Flushed, Committed}
 use Rattle.protocol.specs.declared.call.Call.{Call}
 use Rattle.protocol.specs.declared.refusal.Refusal.{Refusal}
 use Rattle.protocol.specs.declared.weights.Prices.{Prices}
-use Rattle.protocol.specs.Answers.{word_of}
 use Rattle.protocol.specs.Prices.{level_price}
 use Rattle.study.specs.declared.turn.Played.{Played}
 use Rattle.study.specs.declared.turn.Turn.{Turn}
-use Rattle.study.specs.Run.{RunMeaning}
+use Rattle.study.specs.Run.{RunMeaning, most_charge, Bounded}
 use Rattle.study.specs.Step.{step}
 use Rattle.study.specs.Play.{played, history}
 use Rattle.study.specs.Words.{is_accepted, is_wrote, is_access, counted}
@@ -57,11 +56,8 @@ pub record Reported (r : RunMeaning) (ks : List Call) : Type 0 where
   pub steps : (played r ks).tally.steps ≡ counted is_accepted (history r ks)
   pub writes : (played r ks).tally.writes ≡ counted is_wrote (history r ks)
   pub accesses : (played r ks).tally.accesses ≡ counted is_access (history r ks)
-  -- the total is the sum of what the steps charged, at most 2,000 each
+  -- the total is the sum of what the steps charged
   pub total : (played r ks).tally.total ≡ charged_for r ks
   pub totals : TotalsFrom r.prices 0 (history r ks) (played r ks).tally.total
-  pub charges : (k : Call) → (step (played r ks) k).charge ≤ 2000
-  pub most_steps : (played r ks).tally.steps ≤ 1000000
-  pub most_total : (played r ks).tally.total ≤ 2000 * (played r ks).tally.steps
-  -- a refused call leaves the run as it was
-  pub refused : (k : Call) → is_accepted (word_of (step (played r ks) k).answer) ≡ false → (step (played r ks) k).run ≡ played r ks
+  pub charges : (k : Call) → (step (played r ks) k).charge ≤ most_charge
+  pub bounded : Bounded (played r ks).tally

@@ -1,4 +1,4 @@
--- A run: its cores, its memory, its weights, and what it has counted.
+-- A run, which takes steps: its cores, its memory, its weights, and what it has counted.
 use Rattle.std.specs.Prelude.{ℕ, ◌+◌, ◌*◌, ◌≤◌, List, Result}
 use Rattle.memory.specs.Meaning.{MemoryMeaning}
 use Rattle.protocol.specs.declared.answer.Answer.{Answer}
@@ -18,12 +18,19 @@ pub record Tally : Type 0 where
 abbrev pub tally : ℕ → ℕ → ℕ → ℕ → Tally
 tally s w a t = record { steps = s; writes = w; accesses = a; total = t }
 
--- counts that fit: at most a million steps, each at most one write, one access and a charge of 2,000
+-- the most steps that a run accepts, and the most that one is charged
+abbrev pub most_steps : ℕ
+most_steps = 1000000
+
+abbrev pub most_charge : ℕ
+most_charge = 2000
+
+-- counts that fit: each step is at most one write, one access and the most that a step is charged
 pub record Bounded (k : Tally) : Type 0 where
-  pub steps : k.steps ≤ 1000000
+  pub steps : k.steps ≤ most_steps
   pub writes : k.writes ≤ k.steps
   pub accesses : k.accesses ≤ k.steps
-  pub total : k.total ≤ 2000 * k.steps
+  pub total : k.total ≤ most_charge * k.steps
 
 abbrev pub writes_of : Performed → ℕ
 writes_of Nothing = 0

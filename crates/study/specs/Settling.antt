@@ -26,6 +26,19 @@ ending cs m q = record { cores = cs; memory = m; quote = q }
 abbrev pub end_of : RunMeaning → Ending
 end_of r = ending r.cores r.memory (quote_of r.tally)
 
+-- what an opened study comes to: its quote, and cores and memory as the run leaves them; a refused one leaves them untouched
+abbrev pub quoted : {E : Type 0} → Result RunMeaning E → List Call → Result Quote E
+quoted (Ok r) ks = Ok (quote_of (played r ks).tally)
+quoted (Err e) ks = Err e
+
+abbrev pub cores_after : {E : Type 0} → Result RunMeaning E → List CoreMeaning → List Call → List CoreMeaning
+cores_after (Ok r) cs ks = (played r ks).cores
+cores_after (Err e) cs ks = cs
+
+abbrev pub memory_after : {E : Type 0} → Result RunMeaning E → MemoryMeaning → List Call → MemoryMeaning
+memory_after (Ok r) m ks = (played r ks).memory
+memory_after (Err e) m ks = m
+
 -- an opened study is played and settled; a refused one is not
 abbrev pub simulated : Result RunMeaning Refusal → List Call → Result Ending Refusal
 simulated (Ok r) ks = Ok (end_of (played r ks))

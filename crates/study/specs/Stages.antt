@@ -1,4 +1,5 @@
--- What a run means, over what its row and its memory mean.
+-- What the stages of a study mean, over what its row and its memory mean: a draft has yet to be opened, a run takes steps, and a
+-- settled study is over.
 use Rattle.std.specs.Prelude.{List, Ok, Err, Result}
 use Rattle.memory.specs.Meaning.{MemoryMeaning}
 use Rattle.protocol.specs.declared.refusal.Refusal.{Refusal}
@@ -11,6 +12,7 @@ use Rattle.study.specs.Run.{RunMeaning, a_run}
 use Rattle.study.specs.declared.stages.Settled.{Settled}
 use Rattle.study.specs.Settling.{Ending, ending}
 
+-- a run by its cores, its memory, its weights and its counts
 abbrev pub run_of : {R M : Type 0} → (R → List CoreMeaning) → (M → MemoryMeaning) → Run R M → RunMeaning
 run_of cores meaning r = a_run (cores r.row) (meaning r.memory) (prices_of r.weights) r.counts
 

@@ -1,10 +1,9 @@
 -- One step of a run.
-use Rattle.std.specs.Prelude.{ℕ, ◌+◌, Bool, true, false, List, Some, None, Ok, Err, Option, Result, ◌==◌, nat_lt}
+use Rattle.std.specs.Prelude.{ℕ, ◌+◌, Bool, true, false, List, Some, None, Ok, Err, Option, Result, nat_lt}
 use Rattle.device.specs.Device.{after}
 use Rattle.parts.specs.declared.mark.Mark.{Mark}
 use Rattle.parts.specs.declared.mark.Mark.TheVariants.{Shared, Modified}
 use Rattle.parts.specs.declared.line.Line.{Line}
-use Rattle.parts.specs.Marks.{mark_number}
 use Rattle.tier.specs.Meaning.{Holding, look_of, line}
 use Rattle.memory.specs.declared.refusal.Refusal.{Refusal as MemoryRefusal}
 use Rattle.memory.specs.Meaning.{MemoryMeaning, store, stale, size_of, asked}
@@ -24,12 +23,12 @@ use Rattle.protocol.specs.Accesses.{block_of}
 use Rattle.protocol.specs.Calls.{core_of, fits_in}
 use Rattle.protocol.specs.declared.weights.Prices.{Prices}
 use Rattle.protocol.specs.Prices.{price}
-use Rattle.moves.specs.Moves.{modified_stamp}
+use Rattle.moves.specs.Moves.{is_modified, modified_stamp}
 use Rattle.row.specs.declared.operation.Operation.TheVariants.{BringUp, Put, Change}
 use Rattle.row.specs.Cores.{CoreMeaning, count_of, tier_at, state_at, turned, operated_out, done, invalidated, met, awaited}
 use Rattle.study.specs.declared.effect.Performed.{Performed}
 use Rattle.study.specs.declared.effect.Performed.TheVariants.{Nothing, Read as ARead, Write as AWrite}
-use Rattle.study.specs.Run.{RunMeaning, a_run, tallied, Outcome, outcome}
+use Rattle.study.specs.Run.{RunMeaning, a_run, most_steps, tallied, Outcome, outcome}
 
 -- the stamp of a block that is valid in memory
 abbrev pub valid_of : Result (Option ℕ) MemoryRefusal → Option ℕ
@@ -39,22 +38,23 @@ valid_of (Err e) = None
 abbrev pub valid : MemoryMeaning → ℕ → Option ℕ
 valid m n = valid_of (asked m n)
 
--- a line leaves a tier: modified, its stamp is stored in memory; shared, it is dropped
-abbrev pub left_as : Mark → ℕ → ℕ → MemoryMeaning → MemoryMeaning
-left_as Shared n s m = m
-left_as Modified n s m = after m (store n s)
+-- memory when a line has left a tier: modified, its stamp is stored; shared, it is dropped
+abbrev pub memory_taking_as : Mark → ℕ → ℕ → MemoryMeaning → MemoryMeaning
+memory_taking_as Shared n s m = m
+memory_taking_as Modified n s m = after m (store n s)
 
-abbrev pub left : Option Line → MemoryMeaning → MemoryMeaning
-left None m = m
-left (Some g) m = left_as g.mark g.block g.stamp m
+abbrev pub memory_taking : Option Line → MemoryMeaning → MemoryMeaning
+memory_taking None m = m
+memory_taking (Some g) m = memory_taking_as g.mark g.block g.stamp m
 
-abbrev pub leaving_as : Mark → Movement
-leaving_as Shared = Still
-leaving_as Modified = Memory
+-- how the line moved
+abbrev pub movement_as : Mark → Movement
+movement_as Shared = Still
+movement_as Modified = Memory
 
-abbrev pub leaving : Option Line → Movement
-leaving None = Still
-leaving (Some g) = leaving_as g.mark
+abbrev pub movement_of : Option Line → Movement
+movement_of None = Still
+movement_of (Some g) = movement_as g.mark
 
 -- what a call is charged for two movements
 abbrev pub charged : Prices → Movement → Movement → ℕ
@@ -86,7 +86,7 @@ pushed_out r c n h = operated_out (tier_at r.cores c) (BringUp n h)
 -- core c reads block n, which it holds so
 abbrev pub reading : RunMeaning → ℕ → ℕ → Holding → Outcome
 reading r c n h =
-    accepted r (brought_up r c n h) (left (pushed_out r c n h) r.memory) ARead (FromLevel h.2) (leaving (pushed_out r c n h)) (WasRead h.1)
+    accepted r (brought_up r c n h) (memory_taking (pushed_out r c n h) r.memory) ARead (FromLevel h.2) (movement_of (pushed_out r c n h)) (WasRead h.1)
 
 -- core c becomes the only holder of block n: the others drop it, a modified copy met is stored, and memory's is stale
 abbrev pub alone_cores : Bool → ℕ → ℕ → List CoreMeaning → List CoreMeaning
@@ -101,16 +101,13 @@ abbrev pub alone_memory : Bool → ℕ → ℕ → List CoreMeaning → MemoryMe
 alone_memory true c n cs m = m
 alone_memory false c n cs m = after (recalled n (met 0 c n cs) m) (stale n)
 
-abbrev pub is_modified : Holding → Bool
-is_modified h = h.0 == mark_number Modified
-
 -- core c writes block n, which it holds so; a modified copy has no other
 abbrev pub writing : RunMeaning → ℕ → ℕ → Holding → Outcome
 writing r c n h =
     accepted r
     (done (alone_cores (is_modified h) c n (brought_up r c n h)) c (Change (line n Modified (r.tally.writes + 1))))
-    (alone_memory (is_modified h) c n (brought_up r c n h) (left (pushed_out r c n h) r.memory))
-    AWrite (FromLevel h.2) (leaving (pushed_out r c n h)) (Wrote (r.tally.writes + 1))
+    (alone_memory (is_modified h) c n (brought_up r c n h) (memory_taking (pushed_out r c n h) r.memory))
+    AWrite (FromLevel h.2) (movement_of (pushed_out r c n h)) (Wrote (r.tally.writes + 1))
 
 -- an access as a ready core makes it
 abbrev pub access_by : RunMeaning → ℕ → Access → Option Holding → Outcome
@@ -129,8 +126,8 @@ abbrev pub fetching : RunMeaning → ℕ → Access → ℕ → Outcome
 fetching r c a s =
     accepted r
     (turned (done r.cores c (Put (line (block_of a) Shared s))) c (Due a))
-    (left (fetched_line r c a s) r.memory)
-    Nothing Memory (leaving (fetched_line r c a s)) (Brought (block_of a))
+    (memory_taking (fetched_line r c a s) r.memory)
+    Nothing Memory (movement_of (fetched_line r c a s)) (Brought (block_of a))
 
 abbrev pub fetch_by : RunMeaning → ℕ → Access → Option ℕ → Outcome
 fetch_by r c a None = refused r StaleBlock
@@ -144,22 +141,22 @@ abbrev pub cleaning : RunMeaning → ℕ → ℕ → ℕ → Answer → Outcome
 cleaning r c n s x = accepted r (done r.cores c (Change (line n Shared s))) (after r.memory (store n s)) Nothing Memory Still x
 
 -- the stamp with which core c holds block n modified
-abbrev pub owed : RunMeaning → ℕ → ℕ → Option ℕ
-owed r c n = modified_stamp (look_of (tier_at r.cores c) n)
+abbrev pub modified_at : RunMeaning → ℕ → ℕ → Option ℕ
+modified_at r c n = modified_stamp (look_of (tier_at r.cores c) n)
 
 abbrev pub flush_by : RunMeaning → ℕ → ℕ → Option ℕ → Outcome
 flush_by r c n None = refused r NotOwed
 flush_by r c n (Some s) = provided (awaited 0 c n r.cores) NotOwed r (cleaning r c n s (Flushed n))
 
 abbrev pub flush : RunMeaning → ℕ → ℕ → Outcome
-flush r c n = flush_by r c n (owed r c n)
+flush r c n = flush_by r c n (modified_at r c n)
 
 abbrev pub commit_by : RunMeaning → ℕ → ℕ → Option ℕ → Outcome
 commit_by r c n None = accepted r r.cores r.memory Nothing Still Still (Committed false)
 commit_by r c n (Some s) = cleaning r c n s (Committed true)
 
 abbrev pub commit : RunMeaning → ℕ → ℕ → Outcome
-commit r c n = commit_by r c n (owed r c n)
+commit r c n = commit_by r c n (modified_at r c n)
 
 -- what a call does depends on the state of its core
 abbrev pub act : RunMeaning → Call → CoreState → Outcome
@@ -183,12 +180,9 @@ act r (Commit c n) (Waiting a) = refused r WrongState
 act r (Commit c n) (Due a) = refused r WrongState
 
 -- the questions that are put to every call, in this order, and then the call
-abbrev pub checked : RunMeaning → Call → Outcome
-checked r k =
-    provided (nat_lt r.tally.steps 1000000) TooManySteps r
+unfoldable pub step : RunMeaning → Call → Outcome
+step r k =
+    provided (nat_lt r.tally.steps most_steps) TooManySteps r
     (provided (nat_lt (core_of k) (count_of r.cores)) NoSuchCore r
     (provided (fits_in (size_of r.memory) k) NoSuchBlock r
     (act r k (state_at r.cores (core_of k)))))
-
-unfoldable pub step : RunMeaning → Call → Outcome
-step = checked

@@ -1,17 +1,19 @@
 -- The warrant: what holds of every study, whatever its tiers, its memory and its schedule.
-use Rattle.std.specs.Prelude.{◌≤◌, List}
+use Rattle.std.specs.Prelude.{◌≡◌, ℕ, ◌<◌, ◌≤◌, List, Some}
 use Rattle.device.specs.Device.{after}
 use Rattle.tier.specs.Meaning.{TierMeaning, clear, Lawful as LawfulTier}
 use Rattle.tier.specs.Pile.{pile}
 use Rattle.tier.specs.Stacked.{StaysStacked}
-use Rattle.memory.specs.Meaning.{MemoryMeaning, Lawful as LawfulMemory}
+use Rattle.memory.specs.Meaning.{MemoryMeaning, size_of, Lawful as LawfulMemory}
 use Rattle.protocol.specs.declared.call.Call.{Call}
 use Rattle.protocol.specs.declared.weights.Prices.{Prices}
 use Rattle.protocol.specs.Prices.{Affordable}
-use Rattle.row.specs.Cores.{CoreMeaning, count_of, AllLawful}
+use Rattle.row.specs.Cores.{CoreMeaning, most_cores, count_of, AllLawful}
+use Rattle.study.specs.Step.{valid}
 use Rattle.study.specs.Opening.{opened}
 use Rattle.study.specs.Play.{played, history}
-use Rattle.study.specs.Coherence.{Coherent}
+use Rattle.study.specs.Coherence.{Coherent, Unmet}
+use Rattle.study.specs.Told.{Tells}
 use Rattle.study.specs.Book.{new_book, HonestFrom}
 use Rattle.study.specs.Report.{Reported}
 
@@ -24,10 +26,14 @@ Piles = (u l : TierMeaning) → LawfulTier u → LawfulTier l
 -- of the study of these cores and this memory at these prices, and every list of calls from its opening on
 pub record Warranted (cs : List CoreMeaning) (m : MemoryMeaning) (w : Prices) : Type 0 where
   pub piles : Piles
+  -- opening leaves every block of the memory valid with stamp 0
+  pub zeros : (n : ℕ) → n < size_of m → valid (opened cs m w).memory n ≡ Some 0
+  pub told : (ks : List Call) (k : Call) → Tells (played (opened cs m w) ks) k
   pub coherent : (ks : List Call) → Coherent (played (opened cs m w) ks).cores (played (opened cs m w) ks).memory
+  pub unmet : (ks : List Call) → Unmet (played (opened cs m w) ks)
   pub honest : (ks : List Call) → HonestFrom new_book (history (opened cs m w) ks)
   pub reported : (ks : List Call) → Reported (opened cs m w) ks
 
 -- for any lawful tiers, at most eight cores, and any lawful memory
 abbrev pub Warrant : Type 0
-Warrant = (cs : List CoreMeaning) (m : MemoryMeaning) (w : Prices) → count_of cs ≤ 8 → AllLawful cs → LawfulMemory m → Affordable w → Warranted cs m w
+Warrant = (cs : List CoreMeaning) (m : MemoryMeaning) (w : Prices) → count_of cs ≤ most_cores → AllLawful cs → LawfulMemory m → Affordable w → Warranted cs m w

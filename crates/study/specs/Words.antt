@@ -44,11 +44,12 @@ abbrev pub answered : Option Played → Option (Result Answer Refusal)
 answered None = None
 answered (Some p) = Some p.answer
 
--- how many answers of a history have such a word
+-- 1 for an answer that has such a word
 abbrev pub one_if : (Word → Bool) → Option (Result Answer Refusal) → ℕ
 one_if p None = 0
 one_if p (Some a) = cond (p (word_of a)) 1 0
 
+-- how many answers of a history have such a word
 unfoldable pub counted : (Word → Bool) → List Turn → ℕ
 counted p [] = 0
 counted p (t ∷ ts) = one_if p (answered t.played) + counted p ts

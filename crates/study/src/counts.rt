@@ -1,6 +1,6 @@
 //! What a run counts.
 ghost use Rattle.std.specs.Prelude.{◌≡◌, ◌<◌, ◌≤◌};
-ghost use Rattle.study.specs.Run.{tally, tallied};
+ghost use Rattle.study.specs.Run.{tally, tallied, most_steps, most_charge};
 ghost use Rattle.study.specs.Settling.{quote_of};
 
 use crate::effect::Performed;
@@ -50,7 +50,7 @@ impl Counts {
 
     pub(crate) fn writes(&self) -> u32
         ensures writes { result ≡ self.now.writes }
-        ensures bound { result ≤ 1000000 }
+        ensures bound { result ≤ most_steps }
     {
         self.writes
     }
@@ -78,7 +78,7 @@ impl Counts {
 
     /// One more accepted step, with what it performed and what it is charged.
     pub(crate) fn accept(&mut self, performed: Performed, charge: u32)
-        requires { (self.old.steps < 1000000) × (charge ≤ 2000) }
+        requires { (self.old.steps < most_steps) × (charge ≤ most_charge) }
         ensures { self.new ≡ tallied self.old performed charge }
     {
         let (writes, accesses) = match performed {

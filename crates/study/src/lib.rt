@@ -2,7 +2,7 @@
 #![tactic(auto)]
 
 pub mod counts;
-pub mod effect;
+mod effect;
 pub mod quote;
 pub mod stages;
 mod transfers;

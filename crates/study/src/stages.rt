@@ -4,8 +4,9 @@ use crate::quote::Quote;
 use protocol::refusal::Refusal;
 use protocol::weights::Weights;
 
-pub mod ends;
+pub mod opening;
 pub mod play;
+pub mod settling;
 pub mod steps;
 
 /// A study that has not begun: a row, a memory and weights.

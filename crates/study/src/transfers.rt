@@ -2,7 +2,7 @@
 ghost use Rattle.std.specs.Prelude.{◌≡◌};
 ghost use Rattle.device.specs.Device.{after};
 ghost use Rattle.memory.specs.Meaning.{store};
-ghost use Rattle.study.specs.Step.{valid, left, leaving, alone_cores, alone_memory, recalled};
+ghost use Rattle.study.specs.Step.{valid, memory_taking, movement_of, alone_cores, alone_memory, recalled};
 
 use memory::Memory;
 use parts::line::Line;
@@ -27,8 +27,8 @@ pub(crate) fn valid<M: Memory>(memory: &M, block: u16) -> Option<u32>
 
 /// A line leaves the caches: modified, it is stored in main memory; shared, it is dropped.
 pub(crate) fn leave<M: Memory>(memory: &mut M, out: Option<Line>) -> Movement
-    ensures answer { result ≡ leaving out }
-    ensures next { M.Memory.meaning memory.new ≡ left out (M.Memory.meaning memory.old) }
+    ensures answer { result ≡ movement_of out }
+    ensures next { M.Memory.meaning memory.new ≡ memory_taking out (M.Memory.meaning memory.old) }
 {
     match out {
         Some(

@@ -4,10 +4,10 @@ use Rattle.memory.specs.Flat.{flat}
 use Rattle.protocol.specs.Weighing.{prices_of}
 use Rattle.study.specs.Opening.{opening}
 use Rattle.study.specs.Play.{calls_of}
-use Rattle.study.specs.Settling.{simulated, recorded}
+use Rattle.study.specs.Settling.{quoted, memory_after, simulated, recorded}
 use Rattle.study.specs.Warrant.{Warranted}
-use Rattle.lent_study.specs.Lent.{memory_after, quote_of, lent}
-use Rattle.lent_study.proofs.Loan.{weighed-started, weighed-at, returned}
+use Rattle.lent_study.specs.Lent.{lent}
+use Rattle.lent_study.proofs.Loan.{quote_in, quotes, weighed-started, weighed-at, returned}
 use Rattle.lent_study.proofs.lend.Goals as goal
 
 pub returns-in-Ok : goal.returns-in-Ok
@@ -29,7 +29,7 @@ returns-in-Ok g c =
       study = record {
         table = ap (λ o. lent_of (memory_after o t (calls_of turns))) starts ∙ back.table ∙ ap (λ x. lent c.args.table.ghost_name x.now ∷ []) (sym c.into_table-in-Ok.ensures);
         schedule = c.in-Ok.ensures.turns ∙ ap (λ o. recorded o turns) opens ∙ ap (λ o. recorded o turns) (sym starts);
-        quote = ap quote_of ends ∙ ap (λ o. quote_of (simulated o (calls_of turns))) (sym starts);
+        quote = ap quote_in ends ∙ quotes _ _ ∙ ap (λ o. quoted o (calls_of turns)) (sym starts);
         warrant = subst (Warranted cs t) weighed (subst (λ x. Warranted cs (flat x.ghost_name x.now) w) table
             (subst (λ x. Warranted (g.R.Row.cores x) (flat c.weigh.new.self.memory.table.ghost_name c.weigh.new.self.memory.table.now) w) row c.in-Ok.ensures.warrant));
       };

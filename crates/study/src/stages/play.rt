@@ -38,8 +38,8 @@ impl<R: Row, M: Memory> Run<R, M> {
 
 impl<R: Row, M: Memory> Draft<R, M> {
     /// Opens the study, plays a schedule of any length and settles. If the opening is refused, the draft comes back whole and
-    /// nothing is touched. Else, for this schedule and for every other: piles are tiers, cores and memory are coherent at every
-    /// step, every read delivered is honest, and the counts are those of the answers.
+    /// nothing is touched. Else, for this schedule and for every other: piles are tiers, each answer tells what is so, cores and
+    /// memory are coherent at every step, every read delivered is honest, and the counts are those of the answers.
     pub fn simulate(self, schedule: &mut [Turn]) -> Result<Settled<R, M>, RefusedDraft<R, M>>
         ensures ending { ended_as R.cores M.meaning result ≡ simulated (opening (R.cores self.row) (M.meaning self.memory) (prices_of self.weights)) (calls_of schedule.old) }
         ensures turns { schedule.new ≡ recorded (opening (R.cores self.row) (M.meaning self.memory) (prices_of self.weights)) schedule.old }

@@ -3,7 +3,7 @@ ghost use Rattle.std.specs.Prelude.{◌≡◌, ◌<◌, Ok};
 ghost use Rattle.protocol.specs.Weighing.{prices_of};
 ghost use Rattle.protocol.specs.Calls.{core_of};
 ghost use Rattle.row.specs.Cores.{state_at};
-ghost use Rattle.study.specs.Run.{tallied};
+ghost use Rattle.study.specs.Run.{tallied, most_steps};
 ghost use Rattle.study.specs.Step.{charged, waiting, reading, writing, access, fetching, fetch, cleaning, flush, commit, act, step};
 ghost use Rattle.study.specs.Stages.{run_of};
 ghost use Rattle.study.specs.Effects.{Does};
@@ -196,7 +196,7 @@ impl<R: Row, M: Memory> Run<R, M> {
 
     // Counts an accepted step and charges its two movements. Every charge of a run is made here.
     fn charge(&mut self, effect: Effect)
-        requires { self.old.counts.steps < 1000000 }
+        requires { self.old.counts.steps < most_steps }
         ensures { self.new ≡ record self.old { counts = tallied self.old.counts effect.performed (charged (prices_of self.old.weights) effect.moved effect.left) } }
     {
         let moved = self.weights.price(effect.moved);

@@ -1,15 +1,14 @@
-//! How a study begins and ends.
-ghost use Rattle.std.specs.Prelude.{◌≡◌, is_ok, IfErr, OnOk};
+//! How a study begins: a draft is made, weighed and opened.
+ghost use Rattle.std.specs.Prelude.{◌≡◌, IfErr, OnOk};
 ghost use Rattle.memory.specs.Meaning.{size_of};
 ghost use Rattle.protocol.specs.Prices.{none, weighing};
 ghost use Rattle.protocol.specs.Weighing.{prices_of};
 ghost use Rattle.study.specs.Opening.{zeroed, opening};
-ghost use Rattle.study.specs.Settling.{quote_of};
-ghost use Rattle.study.specs.Stages.{run_of, opened_as, weighed_as, answer_of};
+ghost use Rattle.study.specs.Stages.{opened_as, weighed_as, answer_of};
 ghost use Rattle.study.specs.Warrant.{Warranted};
 
 use crate::counts::Counts;
-use crate::stages::{Draft, RefusedDraft, Run, Settled};
+use crate::stages::{Draft, RefusedDraft, Run};
 use crate::transfers::store;
 use memory::Memory;
 use protocol::refusal::Refusal;
@@ -97,26 +96,5 @@ impl<R: Row, M: Memory> Draft<R, M> {
             weights: _,
         } = self;
         (row, memory)
-    }
-}
-
-impl<R: Row, M: Memory> Run<R, M> {
-    /// Ends the run.
-    pub fn settle(self) -> Settled<R, M>
-        ensures row { result.row ≡ self.row }
-        ensures memory { result.memory ≡ self.memory }
-        ensures quote { result.quote ≡ quote_of self.counts }
-    {
-        let Run {
-            row,
-            memory,
-            weights: _,
-            counts,
-        } = self;
-        Settled {
-            row,
-            memory,
-            quote: counts.quote(),
-        }
     }
 }
