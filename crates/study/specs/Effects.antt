@@ -1,4 +1,4 @@
--- What a call does to a run of the code, before its step is counted.
+-- Of private functions only: what a call does to a run of the code, before its step is counted.
 use Rattle.std.specs.Prelude.{◌≡◌, List, Ok, Err, Result}
 use Rattle.memory.specs.Meaning.{MemoryMeaning}
 use Rattle.protocol.specs.declared.refusal.Refusal.{Refusal}
