@@ -1,15 +1,15 @@
 //! Two placements under one schedule.
 ghost use Rattle.std.specs.Prelude.{◌≡◌, ◌++◌, OnOk, IsOk};
 ghost use Rattle.std.specs.Io.KnownBytes.{Appends};
-ghost use Rattle.report.specs.Pairs.{difference_line};
-ghost use Rattle.report.specs.declared.paired.Side.TheVariants.{A, B};
-ghost use Rattle.paired.specs.Single.{IsSingle, side_of};
-ghost use Rattle.paired.specs.Paired.{figure_of};
+ghost use Rattle.report.specs.Lines.{text_of, line_of};
+ghost use Rattle.report.specs.Pairs.{difference_fields};
+ghost use Rattle.report.specs.declared.paired_lines.Side.TheVariants.{A, B};
+ghost use Rattle.paired.specs.Single.{IsSingle, side_lines, figure_of};
 
 use crate::single::{SingleStudy, single};
 use memory::Memory;
 use report::line::Line;
-use report::paired::Side;
+use report::paired_lines::Side;
 use row::Row;
 use scenario::fault::FileFault;
 use std::io;
@@ -64,9 +64,9 @@ pub fn compare<R: Row, M: Memory, S: Row, N: Memory, W: Write>(
     ensures a { IsSingle R.cores M.meaning a.entry.text.now schedule.now a.entry.row a.entry.memory result.a }
     ensures b { IsSingle S.cores N.meaning b.entry.text.now schedule.now b.entry.row b.entry.memory result.b }
     ensures report { OnOk result.written (Appends (W.contents report.old) (W.contents report.new)
-        (side_of A a.entry.text.now schedule.now (R.cores a.entry.row) (M.meaning a.entry.memory)
-        ++ (side_of B b.entry.text.now schedule.now (S.cores b.entry.row) (N.meaning b.entry.memory)
-        ++ difference_line (figure_of result.a.outcome) (figure_of result.b.outcome)))) }
+        (text_of (side_lines A a.entry.text.now schedule.now (R.cores a.entry.row) (M.meaning a.entry.memory))
+        ++ (text_of (side_lines B b.entry.text.now schedule.now (S.cores b.entry.row) (N.meaning b.entry.memory))
+        ++ line_of (difference_fields (figure_of result.a.outcome) (figure_of result.b.outcome))))) }
 {
     let (first, first_written) = single(Side::A, a.text, schedule, a.row, a.memory, report);
     let (second, second_written) = single(Side::B, b.text, schedule, b.row, b.memory, report);

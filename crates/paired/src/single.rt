@@ -1,11 +1,13 @@
 //! The single study of a placement under a schedule.
 ghost use Rattle.std.specs.Prelude.{OnOk};
 ghost use Rattle.std.specs.Io.KnownBytes.{Appends};
-ghost use Rattle.paired.specs.Single.{IsSingle, side_of};
+ghost use Rattle.report.specs.Lines.{text_of};
+ghost use Rattle.report.specs.Reading.{ReadsAs};
+ghost use Rattle.paired.specs.Single.{IsSingle, side_lines};
 
 use memory::Memory;
 use report::line::Line;
-use report::paired::Side;
+use report::paired_lines::Side;
 use row::Row;
 use scenario::fault::{File, FileFault};
 use scenario::layout::{REFERENCES, UNPLACED};
@@ -34,7 +36,8 @@ pub fn single<R: Row, M: Memory, W: Write>(
     report: &mut W,
 ) -> (SingleStudy<R, M>, io::Result<()>)
     ensures study { IsSingle R.cores M.meaning placement.now schedule.now row memory result.0 }
-    ensures report { OnOk result.1 (Appends (W.contents report.old) (W.contents report.new) (side_of side placement.now schedule.now (R.cores row) (M.meaning memory))) }
+    ensures report { OnOk result.1 (Appends (W.contents report.old) (W.contents report.new) (text_of (side_lines side placement.now schedule.now (R.cores row) (M.meaning memory)))) }
+    ensures reads_back { ReadsAs (text_of (side_lines side placement.now schedule.now (R.cores row) (M.meaning memory))) (side_lines side placement.now schedule.now (R.cores row) (M.meaning memory)) }
 {
     let mut layout = [UNPLACED; REFERENCES];
     match texts::single(placement, schedule, &mut layout) {

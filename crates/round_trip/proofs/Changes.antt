@@ -13,8 +13,11 @@ use Rattle.records.specs.declared.keyword.Section.TheVariants.{Scenario, Refs, S
 use Rattle.records.specs.Lines.{record_of}
 use Rattle.scenario.specs.declared.change.Change.TheVariants.{Weigh, Lay, Make}
 use Rattle.scenario.specs.Changes.{and_then, as_text, change_of, weights_of, line_change}
+use Rattle.report.proofs.Rows.{unparted, Unparted, decimal_unparted, body, fields}
 use Rattle.round_trip.specs.Written.{Placing, Writable, weights_fields, placing_fields, step_fields_of, call_of, NamesPlaced}
-use Rattle.round_trip.proofs.Rows.{unparted, Unparted, number, body, fields}
+
+number : (n : ℕ) → n < 65536 → unparted (decimal n) ≡ true
+number n h = decimal_unparted n (omega arith)
 
 read : (n : ℕ) → n < 65536 → number_of (decimal n) ≡ Ok n
 read n h = (reads_decimals (decimal n) (number_of (decimal n)) refl n).1 refl h

@@ -19,7 +19,7 @@ use Rattle.scenario.specs.declared.fault.File.TheVariants.{Placement as Placemen
 use Rattle.scenario.specs.Texts.{unplaced, in_file}
 use Rattle.report.specs.Lines.{row}
 use Rattle.round_trip.specs.Written.{Placing, Step, Placeable, Steppable, ReadsBack, PairReadsBack, written_placement, written_schedule, weights_fields, placing_fields, step_fields, rows, written, placed, made_by}
-use Rattle.round_trip.proofs.Rows.{Unparted, body, row_line}
+use Rattle.report.proofs.Rows.{Unparted, body, row_line}
 use Rattle.round_trip.proofs.Changes.{weights_line, placing_line, step_line, may_step}
 
 scan_on : (st : State) (line : ℕ) (p : List ℕ) (ps : List (List ℕ)) → 1 ≤ length ps → scan st line (p ∷ ps) ≡ and_then (line_change st.layout st.section line p) (λ c. scan (changed_by st c) (line + 1) ps)

@@ -1,5 +1,5 @@
 -- Lines and fields that were written part again where they were joined.
-use Rattle.std.proofs.Common.{◌≡◌, ℕ, ◌<◌, ◌≤◌, ◌+◌, ◌-◌, ◌*◌, Bool, true, ◌&&◌, ltb, List, [], ◌∷◌, ◌++◌, decimal, sym, refl, ap, ◌∙◌, arith, rules, append_assoc, append-nil}
+use Rattle.std.proofs.Common.{◌≡◌, ℕ, ◌<◌, ◌≤◌, ◌+◌, ◌-◌, ◌*◌, ◌^◌, Bool, true, ◌&&◌, ltb, List, [], ◌∷◌, ◌++◌, decimal, sym, refl, ap, ◌∙◌, arith, rules, append_assoc, append-nil}
 use Rattle.std.specs.Str.{all_ascii_digits}
 use Rattle.std.proofs.lemmas.Bool.Decides.{nat_tests}
 use Rattle.std.proofs.lemmas.Str.Parse.{IsNumeralModel, numerals_by_fold}
@@ -16,22 +16,22 @@ abbrev pub Unparted : List (List ℕ) → Type 0
 Unparted [] = Unit {0}
 Unparted (f ∷ fs) = (unparted f ≡ true) × Unparted fs
 
-abbrev value : ℕ → List ℕ → ℕ
+abbrev pub value : ℕ → List ℕ → ℕ
 value n [] = n
 value n (b ∷ bs) = value (10 * n + (b - 48)) bs
 
-own : IsNumeralModel (λ ds. all_ascii_digits ds ≡ true) (value 0)
+pub own : IsNumeralModel (λ ds. all_ascii_digits ds ≡ true) (value 0)
 own = numerals_by_fold _ (search rules) value (search rules)
 
 digits : (bs : List ℕ) → all_ascii_digits bs ≡ true → unparted bs ≡ true
 digits [] a = refl
 digits (b ∷ bs) a = grind (arith, nat_tests, digits bs)
 
-pub number : (n : ℕ) → n < 65536 → unparted (decimal n) ≡ true
-number n h = digits (decimal n) (digits_decimal own n (omega arith))
+pub decimal_unparted : (n : ℕ) → n < 2 ^ 64 → unparted (decimal n) ≡ true
+decimal_unparted n h = digits (decimal n) (digits_decimal own n h)
 
 -- such bytes belong to the part that follows them
-through : (sep : ℕ) (f rest p : List ℕ) (ps : List (List ℕ)) → sep ≤ 10 → unparted f ≡ true → parts sep rest ≡ p ∷ ps → parts sep (f ++ rest) ≡ (f ++ p) ∷ ps
+pub through : (sep : ℕ) (f rest p : List ℕ) (ps : List (List ℕ)) → sep ≤ 10 → unparted f ≡ true → parts sep rest ≡ p ∷ ps → parts sep (f ++ rest) ≡ (f ++ p) ∷ ps
 unfolding parts
 through sep [] rest p ps h u e = e
 through sep (b ∷ bs) rest p ps h u e = grind (arith, nat_tests, through sep bs rest p ps h)
