@@ -3,15 +3,21 @@ use Rattle.std.proofs.Common.{◌≡◌, ℕ, ◌+◌, List, [], ◌∷◌, ◌+
 use Rattle.std.specs.Io.KnownBytes.{Appends}
 use Rattle.std.proofs.KnownBytes.{Appends-nil, Appends-trans}
 use Rattle.protocol.specs.declared.call.Call.{Call}
+use Rattle.memory.specs.Meaning.{MemoryMeaning}
+use Rattle.row.specs.Cores.{CoreMeaning}
+use Rattle.scenario.specs.declared.fault.Fault.{Fault}
+use Rattle.scenario.specs.Reading.{Read}
+use Rattle.study.specs.declared.quote.Quote.{Quote}
+use Rattle.study.specs.Settling.{quote_of}
 use Rattle.study.specs.declared.turn.Played.{Played}
 use Rattle.study.specs.Run.{RunMeaning}
 use Rattle.study.specs.Step.{step}
 use Rattle.study.specs.Play.{played_of, played, history}
-use Rattle.report.specs.Lines.{Field, line_of, text_of}
+use Rattle.report.specs.Lines.{Field, line_of, text_of, fault_fields}
 use Rattle.report.specs.Reading.{ReadsAs}
 use Rattle.report.proofs.Reading.{reads_none, reads_both, text_of-append, text_of-one}
 use Rattle.simulator.specs.Inner.{line_text}
-use Rattle.simulator.specs.Report.{Form, line_if, turn_lines}
+use Rattle.simulator.specs.Report.{Form, in_full, line_if, turn_lines, study_lines, report_lines}
 
 -- ---- what was written of some lines
 
@@ -74,6 +80,7 @@ module _ (r r' r₀ : RunMeaning) (k : Call) (ks ks' ks₀ : List Call) (next : 
 
     pub written_on : (c c' c₀ : Option (List ℕ)) (line : Option (List ℕ)) → line ≡ option_map line_of (f.turn n p)
         → Appends c₀ c (text_of t.done) → Appends c c' (line_text line) → Appends c₀ c' (text_of told_on.done)
+    unfolding told_on
     written_on c c' c₀ line of g h = line_if_more c₀ c c' t.done (f.turn n p) g (subst (λ o. Appends c c' (line_text o)) of h)
 
 module _ (r r₀ : RunMeaning) (ks ks₀ : List Call) (none : ks ≡ []) where
@@ -91,3 +98,39 @@ module _ (r r₀ : RunMeaning) (ks ks₀ : List Call) (none : ks ≡ []) where
 
     pub written_all : (c c₀ : Option (List ℕ)) → Appends c₀ c (text_of t.done) → Appends c₀ c (text_of (turn_lines f 1 (history r₀ ks₀)))
     written_all c c₀ g = subst (λ ls. Appends c₀ c (text_of ls)) all g
+
+-- ---- a whole report
+
+module _ (f : Form) (o : Result RunMeaning Fault) (ks : List Call) where
+  module _ (r : RunMeaning) (is : Ok r ≡ o) (q : Quote) (quote : q ≡ quote_of (played r ks).tally) (line : List ℕ) (of : line ≡ line_of (f.quote q)) where
+    pub study_told : {E : Type 0} (w w' : Result (Unit {0}) E) (a b c : Option (List ℕ)) → OnOk w (Appends a b (text_of (turn_lines f 1 (history r ks)))) → OnOk w' (IsOk w × Appends b c line)
+        → OnOk w' (Appends a c (text_of (study_lines f o ks)))
+    study_told w w' a b c g h =
+        subst (λ x. OnOk w' (Appends a c (text_of (study_lines f x ks)))) is
+            (subst (λ x. OnOk w' (Appends a c (text_of (turn_lines f 1 (history r ks) ++ f.quote x ∷ [])))) quote
+                (on_both w w' g h (λ x y. line_more a b c _ (f.quote q) x (subst (Appends b c) of y))))
+
+    pub study_reads : ReadsAs (text_of (turn_lines f 1 (history r ks))) (turn_lines f 1 (history r ks)) → ReadsAs line (f.quote q ∷ []) → ReadsAs (text_of (study_lines f o ks)) (study_lines f o ks)
+    study_reads g h =
+        subst (λ x. ReadsAs (text_of (study_lines f x ks)) (study_lines f x ks)) is
+            (subst (λ x. ReadsAs (text_of (turn_lines f 1 (history r ks) ++ f.quote x ∷ [])) (turn_lines f 1 (history r ks) ++ f.quote x ∷ [])) quote
+                (reads_more _ (f.quote q) g (subst (λ t. ReadsAs t (f.quote q ∷ [])) of h)))
+
+  module _ (e : Fault) (is : Err e ≡ o) (line : List ℕ) (of : line ≡ line_of (f.fault e)) where
+    pub fault_told : {E : Type 0} (P : Type 0) (w : Result (Unit {0}) E) (a c : Option (List ℕ)) → OnOk w (P × Appends a c line) → OnOk w (Appends a c (text_of (study_lines f o ks)))
+    fault_told P w a c h =
+        subst (λ x. OnOk w (Appends a c (text_of (study_lines f x ks)))) is
+            (on_one w h (λ x. subst (Appends a c) (of ∙ sym (text_of-one (f.fault e))) x.1))
+
+    pub fault_reads : ReadsAs line (f.fault e ∷ []) → ReadsAs (text_of (study_lines f o ks)) (study_lines f o ks)
+    fault_reads h =
+        subst (λ x. ReadsAs (text_of (study_lines f x ks)) (study_lines f x ks)) is
+            (subst (λ t. ReadsAs t (f.fault e ∷ [])) (of ∙ sym (text_of-one (f.fault e))) h)
+
+-- a text with a fault
+module _ (r : Result Read Fault) (cs : List CoreMeaning) (m : MemoryMeaning) (e : Fault) (is : Err e ≡ r) (line : List ℕ) (of : line ≡ line_of (fault_fields e)) where
+  pub unread_told : {E : Type 0} (P : Type 0) (w : Result (Unit {0}) E) (a c : Option (List ℕ)) → OnOk w (P × Appends a c line) → OnOk w (Appends a c (text_of (report_lines in_full r cs m)))
+  unread_told P w a c h = subst (λ x. OnOk w (Appends a c (text_of (report_lines in_full x cs m)))) is (fault_told in_full (Err e) [] e refl line of P w a c h)
+
+  pub unread_reads : ReadsAs line (fault_fields e ∷ []) → ReadsAs (text_of (report_lines in_full r cs m)) (report_lines in_full r cs m)
+  unread_reads h = subst (λ x. ReadsAs (text_of (report_lines in_full x cs m)) (report_lines in_full x cs m)) is (fault_reads in_full (Err e) [] e refl line of h)

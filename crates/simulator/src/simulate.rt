@@ -32,6 +32,7 @@ pub struct Simulated<R, M> {
 
 /// Plays the study that a text asks for on this row and this memory, and tells it. The layout has to be the one that the text was
 /// read into: under another, the steps end at the first that it does not place.
+#[tactic(auto, using(crate::proofs::Playing::study_told, crate::proofs::Playing::study_reads, crate::proofs::Playing::fault_told, crate::proofs::Playing::fault_reads))]
 pub fn simulate_text<R: Row, M: Memory, W: Write, T: Telling>(
     telling: &T,
     text: Text<'_>,
@@ -71,6 +72,7 @@ pub fn simulate_text<R: Row, M: Memory, W: Write, T: Telling>(
 /// Reads a scenario, plays its study on this row and this memory, and writes the report. A scenario with a fault leaves the
 /// layout unplaced (one of another length as it was), and touches neither row nor memory. All steps are played even where the
 /// report cannot be written.
+#[tactic(auto, using(crate::proofs::Playing::unread_told, crate::proofs::Playing::unread_reads))]
 pub fn simulate<R: Row, M: Memory, W: Write>(
     text: &[u8],
     layout: &mut [u32],
