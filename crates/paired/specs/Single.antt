@@ -1,5 +1,5 @@
 -- The single study of a placement under a schedule.
-use Rattle.std.specs.Prelude.{◌≡◌, ℕ, List, [], ◌∷◌, None, Ok, Err, Option, Result, IfErr, OnOk}
+use Rattle.std.specs.Prelude.{◌≡◌, ℕ, List, [], ◌∷◌, ◌++◌, None, Ok, Err, Option, Result, IfErr, OnOk}
 use Rattle.memory.specs.Meaning.{MemoryMeaning}
 use Rattle.protocol.specs.declared.call.Call.{Call}
 use Rattle.row.specs.Cores.{CoreMeaning}
@@ -13,7 +13,7 @@ use Rattle.scenario.specs.Reading.{Read}
 use Rattle.scenario.specs.Texts.{single_of}
 use Rattle.report.specs.declared.paired_lines.Side.{Side}
 use Rattle.report.specs.Lines.{Field}
-use Rattle.report.specs.Pairs.{side_fault_fields}
+use Rattle.report.specs.Pairs.{side_fault_fields, difference_fields}
 use Rattle.simulator.specs.Report.{by_side, study_lines}
 use Rattle.simulator.specs.Simulation.{study_of, schedule_of, prices_in, quoted, cores_after, memory_after}
 use Rattle.paired.specs.declared.single.SingleStudy.{SingleStudy}
@@ -47,3 +47,7 @@ pub record IsSingle {R M : Type 0} (cores : R → List CoreMeaning) (meaning : M
 abbrev pub figure_of : Result Quote FileFault → Option ℕ
 figure_of (Ok q) = q.figure
 figure_of (Err e) = None
+
+-- the lines of both sides, and that of the difference of the figures that they came to
+abbrev pub pair_lines : List (List Field) → List (List Field) → Result Quote FileFault → Result Quote FileFault → List (List Field)
+pair_lines a b x y = a ++ (b ++ difference_fields (figure_of x) (figure_of y) ∷ [])

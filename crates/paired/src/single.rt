@@ -2,7 +2,7 @@
 ghost use Rattle.std.specs.Prelude.{OnOk};
 ghost use Rattle.std.specs.Io.KnownBytes.{Appends};
 ghost use Rattle.report.specs.Lines.{text_of};
-ghost use Rattle.report.specs.Reading.{ReadsAs};
+ghost use Rattle.report.specs.Reading.{ReadBack};
 ghost use Rattle.paired.specs.Single.{IsSingle, side_lines};
 
 use memory::Memory;
@@ -27,6 +27,7 @@ pub struct SingleStudy<R, M> {
 
 /// Reads a placement and a schedule, plays the study on this row and this memory, and tells it as one side of a pair. It is
 /// played to its end even where it cannot be written.
+#[tactic(auto, using(crate::proofs::Telling::side_told, crate::proofs::Telling::side_reads))]
 pub fn single<R: Row, M: Memory, W: Write>(
     side: Side,
     placement: &[u8],
@@ -37,7 +38,7 @@ pub fn single<R: Row, M: Memory, W: Write>(
 ) -> (SingleStudy<R, M>, io::Result<()>)
     ensures study { IsSingle R.cores M.meaning placement.now schedule.now row memory result.0 }
     ensures report { OnOk result.1 (Appends (W.contents report.old) (W.contents report.new) (text_of (side_lines side placement.now schedule.now (R.cores row) (M.meaning memory)))) }
-    ensures reads_back { ReadsAs (text_of (side_lines side placement.now schedule.now (R.cores row) (M.meaning memory))) (side_lines side placement.now schedule.now (R.cores row) (M.meaning memory)) }
+    ensures reads_back { ReadBack (side_lines side placement.now schedule.now (R.cores row) (M.meaning memory)) }
 {
     let mut layout = [UNPLACED; REFERENCES];
     match texts::single(placement, schedule, &mut layout) {

@@ -2,7 +2,7 @@
 use Rattle.std.specs.Prelude.{◌≡◌, ℕ, ◌+◌, ◌-◌, ◌*◌, cond, List, [], ◌∷◌, ◌++◌, map, Some, None, Option}
 use Rattle.fields.specs.Parts.{parts}
 use Rattle.numeral.specs.Number.{is_digit}
-use Rattle.report.specs.Lines.{Field, Number, Text}
+use Rattle.report.specs.Lines.{Field, Number, Text, text_of}
 
 -- the number of which n stands before these digits, read from left to right; none where a byte is no digit
 unfoldable pub number_after : ℕ → List ℕ → Option ℕ
@@ -27,3 +27,7 @@ read_back bytes = map fields_in (parts 10 bytes)
 -- wherever the text stands, it reads back as these lines, and what follows as if it stood alone
 pub record ReadsAs (text : List ℕ) (lines : List (List Field)) : Type 0 where
   pub before : (rest : List ℕ) → read_back (text ++ rest) ≡ lines ++ read_back rest
+
+-- these lines read back as what was written
+abbrev pub ReadBack : List (List Field) → Type 0
+ReadBack lines = ReadsAs (text_of lines) lines

@@ -3,7 +3,7 @@ ghost use Rattle.std.specs.Prelude.{◌≡◌, OnOk};
 ghost use Rattle.std.specs.Io.KnownBytes.{Appends};
 ghost use Rattle.scenario.specs.Texts.{scenario_of};
 ghost use Rattle.report.specs.Lines.{text_of};
-ghost use Rattle.report.specs.Reading.{ReadsAs};
+ghost use Rattle.report.specs.Reading.{ReadBack};
 ghost use Rattle.simulator.specs.Report.{in_full, report_lines};
 ghost use Rattle.simulator.specs.Simulation.{text_read, study_of, layout_after, table_left, IsSimulated};
 
@@ -44,7 +44,7 @@ pub fn simulate_text<R: Row, M: Memory, W: Write, T: Telling>(
     ensures study { IsSimulated R.cores M.meaning (text_read text.entry layout.old) row memory result }
     ensures table { layout.new ≡ layout_after (study_of (text_read text.entry layout.old) (R.cores row) (M.meaning memory)) layout.old }
     ensures report { OnOk result.written (Appends (W.contents report.old) (W.contents report.new) (text_of (report_lines (T.form telling.now) (text_read text.entry layout.old) (R.cores row) (M.meaning memory)))) }
-    ensures reads_back { ReadsAs (text_of (report_lines (T.form telling.now) (text_read text.entry layout.old) (R.cores row) (M.meaning memory))) (report_lines (T.form telling.now) (text_read text.entry layout.old) (R.cores row) (M.meaning memory)) }
+    ensures reads_back { ReadBack (report_lines (T.form telling.now) (text_read text.entry layout.old) (R.cores row) (M.meaning memory)) }
 {
     let mut run = match begin(text.prices, row, memory) {
         Ok(run) => run,
@@ -83,7 +83,7 @@ pub fn simulate<R: Row, M: Memory, W: Write>(
     ensures study { IsSimulated R.cores M.meaning (scenario_of layout.old text.now) row memory result }
     ensures table { layout.new ≡ table_left (study_of (scenario_of layout.old text.now) (R.cores row) (M.meaning memory)) layout.old (scenario_of layout.old text.now) }
     ensures report { OnOk result.written (Appends (W.contents report.old) (W.contents report.new) (text_of (report_lines in_full (scenario_of layout.old text.now) (R.cores row) (M.meaning memory)))) }
-    ensures reads_back { ReadsAs (text_of (report_lines in_full (scenario_of layout.old text.now) (R.cores row) (M.meaning memory))) (report_lines in_full (scenario_of layout.old text.now) (R.cores row) (M.meaning memory)) }
+    ensures reads_back { ReadBack (report_lines in_full (scenario_of layout.old text.now) (R.cores row) (M.meaning memory)) }
 {
     match scenario(text, layout) {
         Ok(read) => simulate_text(&InFull, read, layout, row, memory, report),
