@@ -47,9 +47,10 @@ pub fn single<R: Row, M: Memory, W: Write>(
             let study = SingleStudy {
                 row: told.row,
                 memory: told.memory,
-                outcome: told
-                    .outcome
-                    .map_err(|fault| FileFault::of(File::Schedule, fault)),
+                outcome: told.outcome.map_err(|fault| FileFault {
+                    file: File::Schedule,
+                    fault,
+                }),
             };
             (study, told.written)
         }

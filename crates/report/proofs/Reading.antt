@@ -3,7 +3,8 @@ use Rattle.std.proofs.Common.{◌≡◌, ℕ, ◌-◌, ◌+◌, ◌*◌, ◌^◌
 use Rattle.std.specs.Str.{all_ascii_digits}
 use Rattle.std.proofs.lemmas.Bool.Decides.{nat_tests}
 use Rattle.std.proofs.lemmas.Fmt.{digits_decimal, digits_value-decimal, decimal_nonempty}
-use Rattle.fields.specs.Parts.{onto, parts}
+use Rattle.std.specs.List.{onto_first}
+use Rattle.fields.specs.Parts.{parts}
 use Rattle.report.specs.Lines.{Field, Number, Text, written, line_of, text_of}
 use Rattle.report.specs.Reading.{number_after, field_of, fields_in, read_back, ReadsAs}
 use Rattle.report.proofs.Rows.{unparted, Unparted, value, own, decimal_unparted, through, row_line, fields}
@@ -63,7 +64,7 @@ joined f text fs more [] u e r = absurd (cc)
 joined f text fs more (l ∷ ls) u e r =
     let first : fields_in l ≡ fs = cc in
     let others : map fields_in ls ≡ more = cc in
-    ap (map fields_in) (through 10 f (9 ∷ text) (9 ∷ l) ls (omega arith) u (ap (onto 9) e))
+    ap (map fields_in) (through 10 f (9 ∷ text) (9 ∷ l) ls (omega arith) u (ap (onto_first 9) e))
     ∙ rw (through 9 f (9 ∷ l) [] (parts 9 l) (omega arith) u refl, append-nil f, first, others) refl
 
 pub one_more : (f : Field) (text : List ℕ) (fs : List Field) → IsPlain f → ReadsAs text (fs ∷ []) → ReadsAs (written f ++ 9 ∷ text) ((f ∷ fs) ∷ [])

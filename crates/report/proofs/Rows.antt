@@ -4,7 +4,8 @@ use Rattle.std.specs.Str.{all_ascii_digits}
 use Rattle.std.proofs.lemmas.Bool.Decides.{nat_tests}
 use Rattle.std.proofs.lemmas.Str.Parse.{IsNumeralModel, numerals_by_fold}
 use Rattle.std.proofs.lemmas.Fmt.{digits_decimal}
-use Rattle.fields.specs.Parts.{onto, parts}
+use Rattle.std.specs.List.{onto_first}
+use Rattle.fields.specs.Parts.{parts}
 use Rattle.report.specs.Lines.{row}
 
 -- each byte is above those that part fields and lines
@@ -49,7 +50,7 @@ line f [] rest u =
     ap (parts 10) (append_assoc f (10 ∷ []) rest) ∙ through 10 f (10 ∷ rest) [] (parts 10 rest) (omega arith) u.0 refl ∙ ap (λ x. x ∷ parts 10 rest) (append-nil f)
 line f (g ∷ gs) rest u =
     ap (parts 10) (append_assoc f (9 ∷ row (g ∷ gs)) rest)
-    ∙ through 10 f (9 ∷ (row (g ∷ gs) ++ rest)) (9 ∷ body (g ∷ gs)) (parts 10 rest) (omega arith) u.0 (ap (onto 9) (line g gs rest u.1))
+    ∙ through 10 f (9 ∷ (row (g ∷ gs) ++ rest)) (9 ∷ body (g ∷ gs)) (parts 10 rest) (omega arith) u.0 (ap (onto_first 9) (line g gs rest u.1))
 
 pub row_line : (fs : List (List ℕ)) (rest : List ℕ) → Unparted fs → parts 10 (row fs ++ rest) ≡ body fs ∷ parts 10 rest
 unfolding parts

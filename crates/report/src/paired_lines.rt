@@ -18,8 +18,8 @@ pub enum Side {
 }
 
 impl Side {
-    /// The side as a line spells it.
-    pub fn bytes(self) -> &'static [u8]
+    // The side as a line spells it.
+    fn bytes(self) -> &'static [u8]
         ensures { result.now ≡ side_spelling self }
     {
         match self {

@@ -70,9 +70,6 @@ makes_call layout line bs c e =
 
 -- ---- what was read so far
 
-abbrev pub Steps_at : Type 0
-Steps_at = List ℕ × ℕ × Section
-
 pub record Sofar (first : Section) (table text : List ℕ) (w : Prices) (layout : List ℕ) (s : Section) (line : ℕ) (rest : List ℕ) (from : List ℕ) (at : ℕ) (of : Section) : Type 0 where
   pub calls : List Call
   -- reading on from here comes to what reading the whole comes to
@@ -80,9 +77,6 @@ pub record Sofar (first : Section) (table text : List ℕ) (w : Prices) (layout 
   -- reading the steps again gives the calls so far, and then those to come
   pub again : calls_from layout of at (parts 10 from) ≡ calls ++ calls_from layout s line (parts 10 rest)
   pub none_yet : (s ≡ Steps → ⊥) → calls ≡ []
-
-pub begins : (first : Section) (table text : List ℕ) (w : Prices) → w ≡ none → Sofar first table text w table first 1 text text 1 first
-begins first table text w e = record { calls = []; whole = ap (λ x. scan (state x table [] first) 1 (parts 10 text)) (sym e); again = refl; none_yet = λ _. refl }
 
 scan-on : (st : State) (line : ℕ) (p : List ℕ) (ps : List (List ℕ)) → 1 ≤ length ps → scan st line (p ∷ ps) ≡ and_then (line_change st.layout st.section line p) (λ c. scan (changed_by st c) (line + 1) ps)
 unfolding scan
