@@ -18,8 +18,8 @@ use Rattle.study.specs.Opening.{started}
 use Rattle.study.specs.Play.{history, calls_of}
 use Rattle.scenario.specs.Reading.{a_read}
 use Rattle.scenario.specs.Texts.{scenario_of}
-use Rattle.simulator.specs.Report.{in_full, report_of}
-use Rattle.simulator.specs.Simulation.{opened, schedule_of}
+use Rattle.report.specs.Lines.{text_of}
+use Rattle.simulator.specs.Report.{in_full, report_lines}
 use Rattle.examples.specs.Nine.{weights, blocks, begun, nine, scenario_text, report_text, layout, over, table_after}
 
 -- what a put of block n gives out, once the calls were made
@@ -64,4 +64,4 @@ pub record Examples : Type 0 where
   pub nine_lent : (a : ℕ) → lent_of (over a).memory ≡ record { name = a; cells = table_after } ∷ []
   -- from the bytes of the scenario to those of its report
   pub nine_report : (a : ℕ) (t : List ℕ) → length t ≡ 256
-      → report_of in_full (opened (scenario_of t scenario_text) two_cores (blocks a)) (schedule_of (scenario_of t scenario_text)) ≡ report_text
+      → text_of (report_lines in_full (scenario_of t scenario_text) two_cores (blocks a)) ≡ report_text

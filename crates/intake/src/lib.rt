@@ -1,7 +1,7 @@
 //! Texts, taken from an input.
 #![tactic(auto)]
 
-ghost use Rattle.std.specs.Prelude.{◌≡◌, IfOk, IfSome, take, vec_items};
+ghost use Rattle.std.specs.Prelude.{◌≡◌, ◌≤◌, IfOk, IfSome, take, vec_items, vec_len};
 
 use scenario::reader::MOST_TEXT;
 use std::alloc::Global;
@@ -17,9 +17,12 @@ fn most() -> u64
 
 /// The bytes of an input, but no more than one above those that a text may have.
 pub fn text<R: Read + Drop>(heap: Global, input: R) -> io::Result<Vec<u8>>
-    ensures { IfOk result (λ bytes. IfSome (R.remaining input) (λ given. vec_items bytes ≡ take 65537 given)) }
+    ensures given { IfOk result (λ bytes. IfSome (R.remaining input) (λ given. vec_items bytes ≡ take 65537 given)) }
+    ensures most { IfOk result (λ bytes. vec_len bytes ≤ 65537) }
 {
     let mut bytes = Vec::new(heap);
     input.take(most()).read_to_end(&mut bytes)?;
+    // no contract says how many bytes come from an input whose contents are not known
+    bytes.truncate(MOST_TEXT + 1);
     Ok(bytes)
 }

@@ -1,5 +1,4 @@
-//! mcsim: plays a scenario on two cores, each with a direct tier of 2 lines on a set-associative tier of 2 sets of 2 ways, over a
-//! flat memory of 16 blocks, and writes the report.
+//! mcsim: plays a scenario on the machine that its help tells, and writes the report.
 #![tactic(auto)]
 
 use anyhow::anyhow;
@@ -22,15 +21,15 @@ docs/SCENARIO.md tells the format of scenarios and reports.
 
 The exit status is 0 whenever a report was written, also that of a fault.";
 
-// Opening a study stores a stamp in every cell, so it makes no difference what these hold.
-const CELL: Cell = Cell {
+// The memory of the machine. Opening a study stores a stamp in every cell, so it makes no difference what these hold.
+const BLOCKS: [Cell; 16] = [Cell {
     state: State::Stale,
     stamp: 0,
-};
+}; 16];
 
 fn report(rt: &HostRuntime, text: &[u8]) -> anyhow::Result<()> {
     let mut layout = [UNPLACED; REFERENCES];
-    let mut table = [CELL; 16];
+    let mut table = BLOCKS;
     let row = two_cores(rt.alloc())?;
     let mut out = BufWriter::new(rt.alloc(), rt.stdout())?;
     let simulated = simulate(text, &mut layout, row, Flat::over(&mut table), &mut out);

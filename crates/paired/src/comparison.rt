@@ -1,15 +1,15 @@
 //! Two placements under one schedule.
-ghost use Rattle.std.specs.Prelude.{◌≡◌, ◌++◌, OnOk, IsOk};
+ghost use Rattle.std.specs.Prelude.{◌≡◌, OnOk, IsOk};
 ghost use Rattle.std.specs.Io.KnownBytes.{Appends};
-ghost use Rattle.report.specs.Pairs.{difference_line};
-ghost use Rattle.report.specs.declared.paired.Side.TheVariants.{A, B};
-ghost use Rattle.paired.specs.Single.{IsSingle, side_of};
-ghost use Rattle.paired.specs.Paired.{figure_of};
+ghost use Rattle.report.specs.Lines.{text_of};
+ghost use Rattle.report.specs.Reading.{ReadBack};
+ghost use Rattle.report.specs.declared.paired_lines.Side.TheVariants.{A, B};
+ghost use Rattle.paired.specs.Single.{IsSingle, side_lines, figure_of, pair_lines};
 
 use crate::single::{SingleStudy, single};
 use memory::Memory;
 use report::line::Line;
-use report::paired::Side;
+use report::paired_lines::Side;
 use row::Row;
 use scenario::fault::FileFault;
 use std::io;
@@ -55,6 +55,7 @@ fn finish<W: Write>(
 
 /// Plays the single study of each placement under the schedule, on its own row and memory, and tells both sides and the
 /// difference of their figures.
+#[tactic(auto, using(crate::proofs::Telling::both_told, crate::proofs::Telling::both_read))]
 pub fn compare<R: Row, M: Memory, S: Row, N: Memory, W: Write>(
     a: Placement<'_, R, M>,
     b: Placement<'_, S, N>,
@@ -63,10 +64,14 @@ pub fn compare<R: Row, M: Memory, S: Row, N: Memory, W: Write>(
 ) -> Comparison<R, M, S, N>
     ensures a { IsSingle R.cores M.meaning a.entry.text.now schedule.now a.entry.row a.entry.memory result.a }
     ensures b { IsSingle S.cores N.meaning b.entry.text.now schedule.now b.entry.row b.entry.memory result.b }
-    ensures report { OnOk result.written (Appends (W.contents report.old) (W.contents report.new)
-        (side_of A a.entry.text.now schedule.now (R.cores a.entry.row) (M.meaning a.entry.memory)
-        ++ (side_of B b.entry.text.now schedule.now (S.cores b.entry.row) (N.meaning b.entry.memory)
-        ++ difference_line (figure_of result.a.outcome) (figure_of result.b.outcome)))) }
+    ensures report { OnOk result.written (Appends (W.contents report.old) (W.contents report.new) (text_of (pair_lines
+        (side_lines A a.entry.text.now schedule.now (R.cores a.entry.row) (M.meaning a.entry.memory))
+        (side_lines B b.entry.text.now schedule.now (S.cores b.entry.row) (N.meaning b.entry.memory))
+        result.a.outcome result.b.outcome))) }
+    ensures reads_back { ReadBack (pair_lines
+        (side_lines A a.entry.text.now schedule.now (R.cores a.entry.row) (M.meaning a.entry.memory))
+        (side_lines B b.entry.text.now schedule.now (S.cores b.entry.row) (N.meaning b.entry.memory))
+        result.a.outcome result.b.outcome) }
 {
     let (first, first_written) = single(Side::A, a.text, schedule, a.row, a.memory, report);
     let (second, second_written) = single(Side::B, b.text, schedule, b.row, b.memory, report);

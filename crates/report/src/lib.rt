@@ -2,5 +2,5 @@
 #![tactic(auto)]
 
 pub mod line;
-pub mod paired;
-mod told;
+mod lines;
+pub mod paired_lines;

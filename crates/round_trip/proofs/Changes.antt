@@ -1,5 +1,5 @@
 -- What the lines that were written change.
-use Rattle.std.proofs.Common.{◌≡◌, ℕ, ◌+◌, ◌*◌, ◌<◌, ◌≤◌, Bool, true, false, List, [], ◌∷◌, length, get_or, slice_get, decimal, codes, nat_lt, Some, Ok, refl, ◌∙◌, arith}
+use Rattle.std.proofs.Common.{◌≡◌, ℕ, ◌+◌, ◌*◌, ◌<◌, ◌≤◌, Bool, true, false, List, [], ◌∷◌, map, length, get_or, slice_get, decimal, codes, nat_lt, Some, Ok, refl, ◌∙◌, arith}
 use Rattle.std.proofs.lemmas.Bool.Decides.{nat_tests}
 use Rattle.std.proofs.lemmas.Fmt.{length-decimal-le}
 use Rattle.std.proofs.lemmas.List.{length-append}
@@ -13,8 +13,12 @@ use Rattle.records.specs.declared.keyword.Section.TheVariants.{Scenario, Refs, S
 use Rattle.records.specs.Lines.{record_of}
 use Rattle.scenario.specs.declared.change.Change.TheVariants.{Weigh, Lay, Make}
 use Rattle.scenario.specs.Changes.{and_then, as_text, change_of, weights_of, line_change}
+use Rattle.report.specs.Lines.{written as as_written}
+use Rattle.report.proofs.Rows.{unparted, Unparted, decimal_unparted, body, fields}
 use Rattle.round_trip.specs.Written.{Placing, Writable, weights_fields, placing_fields, step_fields_of, call_of, NamesPlaced}
-use Rattle.round_trip.proofs.Rows.{unparted, Unparted, number, body, fields}
+
+number : (n : ℕ) → n < 65536 → unparted (decimal n) ≡ true
+number n h = decimal_unparted n (omega arith)
 
 read : (n : ℕ) → n < 65536 → number_of (decimal n) ≡ Ok n
 read n h = (reads_decimals (decimal n) (number_of (decimal n)) refl n).1 refl h
@@ -59,13 +63,13 @@ may_place true = Refs
 may_place false = Placement
 
 module _ (w : Prices) (h : Writable w) where
-  five : Unparted (weights_fields w) × Short (weights_fields w)
+  five : Unparted (map as_written (weights_fields w)) × Short (map as_written (weights_fields w))
   five = (
     (refl, (number w.w1 h.w1, (number w.w2 h.w2, (number w.w3 h.w3, (number w.w4 h.w4, (number w.wm h.wm, tt)))))),
     (omega arith, (seven w.w1 h.w1, (seven w.w2 h.w2, (seven w.w3 h.w3, (seven w.w4 h.w4, (seven w.wm h.wm, tt)))))),
   )
 
-pub weights_line : (layout : List ℕ) (o : Bool) (line : ℕ) (w : Prices) → Writable w → Unparted (weights_fields w) × (line_change layout (may_weigh o) line (body (weights_fields w)) ≡ Ok (Weigh w))
+pub weights_line : (layout : List ℕ) (o : Bool) (line : ℕ) (w : Prices) → Writable w → Unparted (map as_written (weights_fields w)) × (line_change layout (may_weigh o) line (body (map as_written (weights_fields w))) ≡ Ok (Weigh w))
 unfolding weights_of
 weights_line layout true line w h =
     let p = five w h in
@@ -75,11 +79,11 @@ weights_line layout false line w h =
     (p.0, of_fields layout Schedule line (codes "weights") (decimal w.w1 ∷ decimal w.w2 ∷ decimal w.w3 ∷ decimal w.w4 ∷ decimal w.wm ∷ []) p.0 p.1 (omega arith) ∙ rw (read w.w1 h.w1, read w.w2 h.w2, read w.w3 h.w3, read w.w4 h.w4, read w.wm h.wm) refl)
 
 module _ (p : Placing) (r : p.reference < 65536) (b : p.block < 65536) where
-  pair : Unparted (placing_fields p) × Short (placing_fields p)
+  pair : Unparted (map as_written (placing_fields p)) × Short (map as_written (placing_fields p))
   pair = ((refl, (number p.reference r, (number p.block b, tt))), (omega arith, (seven p.reference r, (seven p.block b, tt))))
 
 pub placing_line : (layout : List ℕ) (o : Bool) (line : ℕ) (p : Placing) → slice_get layout p.reference ≡ Some 65536 → p.reference < 256 → p.block < 65536
-    → Unparted (placing_fields p) × (line_change layout (may_place o) line (body (placing_fields p)) ≡ Ok (Lay p.reference p.block))
+    → Unparted (map as_written (placing_fields p)) × (line_change layout (may_place o) line (body (map as_written (placing_fields p))) ≡ Ok (Lay p.reference p.block))
 placing_line layout true line p e r b =
     let q = pair p (omega arith) b in
     (q.0, of_fields layout Refs line (codes "ref") (decimal p.reference ∷ decimal p.block ∷ []) q.0 q.1 (omega arith) ∙ rw (read p.reference (omega arith), read p.block b, e) refl)
@@ -101,7 +105,7 @@ module _ (layout : List ℕ) (line : ℕ) (c : ℕ) (h : c < 65536) where
     two f u l = ((u, (number c h, (number r (omega arith), tt))), (l, (seven c h, (seven r (omega arith), tt))))
 
 pub step_line : (layout : List ℕ) (o : Bool) (line : ℕ) (v : Verb) (c r : ℕ) → c < 65536 → NamesPlaced layout v r
-    → Unparted (step_fields_of v c r) × (line_change layout (may_step o) line (body (step_fields_of v c r)) ≡ Ok (Make (call_of v c (get_or layout r 0))))
+    → Unparted (map as_written (step_fields_of v c r)) × (line_change layout (may_step o) line (body (map as_written (step_fields_of v c r))) ≡ Ok (Make (call_of v c (get_or layout r 0))))
 step_line layout true line Read c r h n =
     let p = two layout line c h r n.0 n.1 n.2 (codes "read") refl (omega arith) in
     (p.0, of_fields layout Refs line (codes "read") (decimal c ∷ decimal r ∷ []) p.0 p.1 (omega arith) ∙ rw (read c h, read r (omega arith), n.1, below (get_or layout r 0) n.2) refl)

@@ -17,9 +17,9 @@ use Rattle.scenario.specs.Scan.{State, state, start, scan, changed_by}
 use Rattle.scenario.specs.Reading.{read_of, section_of}
 use Rattle.scenario.specs.declared.fault.File.TheVariants.{Placement as PlacementFile, Schedule as ScheduleFile}
 use Rattle.scenario.specs.Texts.{unplaced, in_file}
-use Rattle.report.specs.Lines.{row}
-use Rattle.round_trip.specs.Written.{Placing, Step, Placeable, Steppable, ReadsBack, PairReadsBack, written_placement, written_schedule, weights_fields, placing_fields, step_fields, rows, written, placed, made_by}
-use Rattle.round_trip.proofs.Rows.{Unparted, body, row_line}
+use Rattle.report.specs.Lines.{row, text_of, written as as_written}
+use Rattle.round_trip.specs.Written.{Placing, Step, Placeable, Steppable, ReadsBack, PairReadsBack, written_placement, written_schedule, weights_fields, placing_fields, step_fields, written, placed, made_by}
+use Rattle.report.proofs.Rows.{Unparted, body, row_line}
 use Rattle.round_trip.proofs.Changes.{weights_line, placing_line, step_line, may_step}
 
 scan_on : (st : State) (line : ℕ) (p : List ℕ) (ps : List (List ℕ)) → 1 ≤ length ps → scan st line (p ∷ ps) ≡ and_then (line_change st.layout st.section line p) (λ c. scan (changed_by st c) (line + 1) ps)
@@ -35,8 +35,8 @@ row_read st line fs rest c u e =
     ∙ ap (λ r. and_then r (λ c'. scan (changed_by st c') (line + 1) (parts 10 rest))) e
 
 steps_read : (w : Prices) (layout : List ℕ) (ks : List Call) (o : Bool) (line : ℕ) (ss : List Step) → Steppable layout ss
-    → (s : Section) × (scan (state w layout ks (may_step o)) line (parts 10 (rows (map step_fields ss))) ≡ Ok (state w layout (ks ++ map (made_by layout) ss) s))
-unfolding scan parts rows
+    → (s : Section) × (scan (state w layout ks (may_step o)) line (parts 10 (text_of (map step_fields ss))) ≡ Ok (state w layout (ks ++ map (made_by layout) ss) s))
+unfolding scan parts text_of
 steps_read w layout ks true line [] h = (Refs, ap (λ x. Ok (state w layout x Refs)) (sym (append-nil ks)))
 steps_read w layout ks false line [] h = (Steps, ap (λ x. Ok (state w layout x Steps)) (sym (append-nil ks)))
 steps_read w layout ks o line (x ∷ ss) h =
@@ -44,26 +44,26 @@ steps_read w layout ks o line (x ∷ ss) h =
     let k = made_by layout x in
     let more = steps_read w layout (ks ++ k ∷ []) false (line + 1) ss h.2 in (
       more.0,
-      row_read (state w layout ks (may_step o)) line (step_fields x) (rows (map step_fields ss)) _ l.0 l.1
+      row_read (state w layout ks (may_step o)) line (map as_written (step_fields x)) (text_of (map step_fields ss)) _ l.0 l.1
           ∙ more.1 ∙ ap (λ y. Ok (state w layout y more.0)) (append_assoc ks (k ∷ []) (map (made_by layout) ss)),
     )
 
 placings_read : (w : Prices) (layout : List ℕ) (line : ℕ) (ps : List Placing) (ss : List Step) → Placeable layout ps → Steppable (placed layout ps) ss
-    → (s : Section) × (scan (state w layout [] Refs) line (parts 10 (rows (map placing_fields ps ++ map step_fields ss))) ≡ Ok (state w (placed layout ps) (map (made_by (placed layout ps)) ss) s))
-unfolding rows placed
+    → (s : Section) × (scan (state w layout [] Refs) line (parts 10 (text_of (map placing_fields ps ++ map step_fields ss))) ≡ Ok (state w (placed layout ps) (map (made_by (placed layout ps)) ss) s))
+unfolding text_of placed
 placings_read w layout line [] ss h g = steps_read w layout [] true line ss g
 placings_read w layout line (p ∷ ps) ss h g =
     let l = placing_line layout true line p h.0 h.1 h.2 in
     let more = placings_read w (slice_set layout p.reference p.block) (line + 1) ps ss h.3 g in
-    (more.0, row_read (state w layout [] Refs) line (placing_fields p) (rows (map placing_fields ps ++ map step_fields ss)) _ l.0 l.1 ∙ more.1)
+    (more.0, row_read (state w layout [] Refs) line (map as_written (placing_fields p)) (text_of (map placing_fields ps ++ map step_fields ss)) _ l.0 l.1 ∙ more.1)
 
 placement_read : (layout : List ℕ) (line : ℕ) (ps : List Placing) → Placeable layout ps
-    → scan (state none layout [] Placement) line (parts 10 (rows (map placing_fields ps))) ≡ Ok (state none (placed layout ps) [] Placement)
-unfolding scan parts rows placed
+    → scan (state none layout [] Placement) line (parts 10 (text_of (map placing_fields ps))) ≡ Ok (state none (placed layout ps) [] Placement)
+unfolding scan parts text_of placed
 placement_read layout line [] h = refl
 placement_read layout line (p ∷ ps) h =
     let l = placing_line layout false line p h.0 h.1 h.2 in
-    row_read (state none layout [] Placement) line (placing_fields p) (rows (map placing_fields ps)) _ l.0 l.1
+    row_read (state none layout [] Placement) line (map as_written (placing_fields p)) (text_of (map placing_fields ps)) _ l.0 l.1
     ∙ placement_read (slice_set layout p.reference p.block) (line + 1) ps h.3
 
 -- a text that is not too long comes to what its lines come to
@@ -75,19 +75,19 @@ text_read first layout text st short read =
     ∙ ap (λ r. and_then r (λ x. Ok (read_of x))) read
 
 pub reads_back : ReadsBack
-unfolding rows
+unfolding text_of
 reads_back w ps ss table hw hp hs short full =
     let l = weights_line unplaced true 1 w hw in
     let more = placings_read w unplaced 2 ps ss hp hs in
     ap (λ n. cond (n == 256) (section_of Scenario unplaced (written w ps ss)) (Err (Layout BadTable))) full
-    ∙ text_read Scenario unplaced (written w ps ss) _ short (row_read (start Scenario unplaced) 1 (weights_fields w) (rows (map placing_fields ps ++ map step_fields ss)) _ l.0 l.1 ∙ more.1)
+    ∙ text_read Scenario unplaced (written w ps ss) _ short (row_read (start Scenario unplaced) 1 (map as_written (weights_fields w)) (text_of (map placing_fields ps ++ map step_fields ss)) _ l.0 l.1 ∙ more.1)
 
 pub pair_reads_back : PairReadsBack
-unfolding rows
+unfolding text_of
 pair_reads_back w ps ss hw hp hs short_p short_s =
     let layout = placed unplaced ps in
     let m = weights_line layout false 1 w hw in
     let more = steps_read w layout [] false 2 ss hs in
     ap (λ r. and_then (in_file PlacementFile r) (λ x. in_file ScheduleFile (section_of Schedule x.layout (written_schedule w ss))))
     (text_read Placement unplaced (written_placement ps) _ short_p (placement_read unplaced 1 ps hp))
-    ∙ ap (in_file ScheduleFile) (text_read Schedule layout (written_schedule w ss) _ short_s (row_read (start Schedule layout) 1 (weights_fields w) (rows (map step_fields ss)) _ m.0 m.1 ∙ more.1))
+    ∙ ap (in_file ScheduleFile) (text_read Schedule layout (written_schedule w ss) _ short_s (row_read (start Schedule layout) 1 (map as_written (weights_fields w)) (text_of (map step_fields ss)) _ m.0 m.1 ∙ more.1))

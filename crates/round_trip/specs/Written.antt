@@ -1,5 +1,5 @@
 -- A scenario, as a buyer writes it down, and what reading it back has to give.
-use Rattle.std.specs.Prelude.{◌≡◌, ℕ, ◌<◌, ◌≤◌, List, [], ◌∷◌, ◌++◌, map, length, get_or, slice_get, slice_set, codes, decimal, Some, Ok}
+use Rattle.std.specs.Prelude.{◌≡◌, ℕ, ◌<◌, ◌≤◌, List, [], ◌∷◌, ◌++◌, map, length, get_or, slice_get, slice_set, codes, Some, Ok}
 use Rattle.protocol.specs.declared.call.Call.{Call}
 use Rattle.protocol.specs.declared.call.Call.TheVariants as call
 use Rattle.protocol.specs.declared.weights.Prices.{Prices}
@@ -7,7 +7,7 @@ use Rattle.records.specs.declared.keyword.Verb.{Verb}
 use Rattle.records.specs.declared.keyword.Verb.TheVariants.{Read, Write, Commit, Flush, Fetch, Resume}
 use Rattle.scenario.specs.Reading.{a_read}
 use Rattle.scenario.specs.Texts.{unplaced, scenario_of, single_of}
-use Rattle.report.specs.Lines.{row}
+use Rattle.report.specs.Lines.{Field, Number, Text, text_of}
 
 -- a reference, and the block where it is placed
 pub record Placing : Type 0 where
@@ -20,30 +20,25 @@ pub record Step : Type 0 where
   pub core : ℕ
   pub reference : ℕ
 
-abbrev pub weights_fields : Prices → List (List ℕ)
-weights_fields w = codes "weights" ∷ decimal w.w1 ∷ decimal w.w2 ∷ decimal w.w3 ∷ decimal w.w4 ∷ decimal w.wm ∷ []
+abbrev pub weights_fields : Prices → List Field
+weights_fields w = Text (codes "weights") ∷ Number w.w1 ∷ Number w.w2 ∷ Number w.w3 ∷ Number w.w4 ∷ Number w.wm ∷ []
 
-abbrev pub placing_fields : Placing → List (List ℕ)
-placing_fields p = codes "ref" ∷ decimal p.reference ∷ decimal p.block ∷ []
+abbrev pub placing_fields : Placing → List Field
+placing_fields p = Text (codes "ref") ∷ Number p.reference ∷ Number p.block ∷ []
 
-abbrev pub step_fields_of : Verb → ℕ → ℕ → List (List ℕ)
-step_fields_of Read c r = codes "read" ∷ decimal c ∷ decimal r ∷ []
-step_fields_of Write c r = codes "write" ∷ decimal c ∷ decimal r ∷ []
-step_fields_of Commit c r = codes "commit" ∷ decimal c ∷ decimal r ∷ []
-step_fields_of Flush c r = codes "flush" ∷ decimal c ∷ decimal r ∷ []
-step_fields_of Fetch c r = codes "fetch" ∷ decimal c ∷ []
-step_fields_of Resume c r = codes "resume" ∷ decimal c ∷ []
+abbrev pub step_fields_of : Verb → ℕ → ℕ → List Field
+step_fields_of Read c r = Text (codes "read") ∷ Number c ∷ Number r ∷ []
+step_fields_of Write c r = Text (codes "write") ∷ Number c ∷ Number r ∷ []
+step_fields_of Commit c r = Text (codes "commit") ∷ Number c ∷ Number r ∷ []
+step_fields_of Flush c r = Text (codes "flush") ∷ Number c ∷ Number r ∷ []
+step_fields_of Fetch c r = Text (codes "fetch") ∷ Number c ∷ []
+step_fields_of Resume c r = Text (codes "resume") ∷ Number c ∷ []
 
-abbrev pub step_fields : Step → List (List ℕ)
+abbrev pub step_fields : Step → List Field
 step_fields s = step_fields_of s.verb s.core s.reference
 
--- a line for each
-unfoldable pub rows : List (List (List ℕ)) → List ℕ
-rows [] = []
-rows (fs ∷ fss) = row fs ++ rows fss
-
 abbrev pub written : Prices → List Placing → List Step → List ℕ
-written w ps ss = rows (weights_fields w ∷ (map placing_fields ps ++ map step_fields ss))
+written w ps ss = text_of (weights_fields w ∷ (map placing_fields ps ++ map step_fields ss))
 
 -- the layout with the placings
 unfoldable pub placed : List ℕ → List Placing → List ℕ
@@ -95,10 +90,10 @@ ReadsBack = (w : Prices) (ps : List Placing) (ss : List Step) (table : List ℕ)
 
 -- the same in two texts: a placement, and a schedule
 abbrev pub written_placement : List Placing → List ℕ
-written_placement ps = rows (map placing_fields ps)
+written_placement ps = text_of (map placing_fields ps)
 
 abbrev pub written_schedule : Prices → List Step → List ℕ
-written_schedule w ss = rows (weights_fields w ∷ map step_fields ss)
+written_schedule w ss = text_of (weights_fields w ∷ map step_fields ss)
 
 -- a placement and a schedule are read together as the scenario is that has both: the single study of a pair is that scenario's
 abbrev pub PairReadsBack : Type 0

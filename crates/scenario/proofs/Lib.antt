@@ -1,2 +1,3 @@
+pub mod Anywhere
 pub mod Calls
 pub mod Sofar

@@ -6,7 +6,6 @@ use Rattle.fields.specs.Parts.{parts}
 use Rattle.fields.proofs.Cuts.{some}
 use Rattle.protocol.specs.declared.call.Call.{Call}
 use Rattle.protocol.specs.declared.weights.Prices.{Prices}
-use Rattle.protocol.specs.Prices.{none}
 use Rattle.records.specs.declared.fault.TextFault.{TextFault}
 use Rattle.records.specs.declared.keyword.Keyword.{Keyword}
 use Rattle.records.specs.declared.keyword.Keyword.TheVariants.{Weights, Ref, Step}
@@ -24,6 +23,7 @@ use Rattle.scenario.specs.Scan.{State, state, start, scan, text_of, changed_by, 
 use Rattle.scenario.specs.Reading.{read_as, read_of, section_of}
 use Rattle.scenario.specs.declared.reader.Text.{Text}
 use Rattle.scenario.specs.Steps.{made, calls_from, calls_in}
+use Rattle.scenario.proofs.Anywhere.{anywhere}
 use Rattle.scenario.proofs.Calls.{calls_first, calls_last}
 
 -- ---- in the section of steps a line makes a call
@@ -70,27 +70,21 @@ makes_call layout line bs c e =
 
 -- ---- what was read so far
 
-abbrev pub Steps_at : Type 0
-Steps_at = List ℕ × ℕ × Section
-
-pub record Sofar (first : Section) (table text : List ℕ) (w : Prices) (layout : List ℕ) (s : Section) (line : ℕ) (rest : List ℕ) (from : List ℕ) (at : ℕ) (of : Section) : Type 0 where
+pub record Sofar (first : Section) (table text : List ℕ) (w : Prices) (layout : List ℕ) (s : Section) (line : ℕ) (rest : List ℕ) (from : List ℕ) : Type 0 where
   pub calls : List Call
   -- reading on from here comes to what reading the whole comes to
   pub whole : scan (start first table) 1 (parts 10 text) ≡ scan (state w layout calls s) line (parts 10 rest)
   -- reading the steps again gives the calls so far, and then those to come
-  pub again : calls_from layout of at (parts 10 from) ≡ calls ++ calls_from layout s line (parts 10 rest)
+  pub again : calls_from layout (parts 10 from) ≡ calls ++ calls_from layout (parts 10 rest)
   pub none_yet : (s ≡ Steps → ⊥) → calls ≡ []
-
-pub begins : (first : Section) (table text : List ℕ) (w : Prices) → w ≡ none → Sofar first table text w table first 1 text text 1 first
-begins first table text w e = record { calls = []; whole = ap (λ x. scan (state x table [] first) 1 (parts 10 text)) (sym e); again = refl; none_yet = λ _. refl }
 
 scan-on : (st : State) (line : ℕ) (p : List ℕ) (ps : List (List ℕ)) → 1 ≤ length ps → scan st line (p ∷ ps) ≡ and_then (line_change st.layout st.section line p) (λ c. scan (changed_by st c) (line + 1) ps)
 unfolding scan
 scan-on st line p [] h = absurd (omega arith)
 scan-on st line p (q ∷ ps) h = refl
 
-module _ (first : Section) (table text : List ℕ) (w : Prices) (layout : List ℕ) (s : Section) (line : ℕ) (rest from : List ℕ) (at : ℕ) (of : Section)
-    (sofar : Sofar first table text w layout s line rest from at of) (bytes more : List ℕ) (cut : parts 10 rest ≡ bytes ∷ parts 10 more) where
+module _ (first : Section) (table text : List ℕ) (w : Prices) (layout : List ℕ) (s : Section) (line : ℕ) (rest from : List ℕ)
+    (sofar : Sofar first table text w layout s line rest from) (bytes more : List ℕ) (cut : parts 10 rest ≡ bytes ∷ parts 10 more) where
   so : scan (start first table) 1 (parts 10 text) ≡ and_then (line_change layout s line bytes) (λ c. scan (changed_by (state w layout sofar.calls s) c) (line + 1) (parts 10 more))
   so = sofar.whole ∙ ap (scan (state w layout sofar.calls s) line) cut ∙ scan-on (state w layout sofar.calls s) line bytes (parts 10 more) (some 10 more)
 
@@ -104,38 +98,38 @@ module _ (first : Section) (table text : List ℕ) (w : Prices) (layout : List �
   before_steps c h other = sofar.none_yet (λ e. let m = makes_call layout line bytes c (h ∙ ap (λ x. line_change layout x line bytes) e) in other m.0 m.1)
 
   pub weighs : (w' : Prices) → Ok (Weigh w') ≡ line_change layout s line bytes
-      → Sofar first table text w' layout (after_weights s) (line + 1) more more (line + 1) (after_weights s)
+      → Sofar first table text w' layout (after_weights s) (line + 1) more more
   weighs w' h =
       let none = before_steps (Weigh w') h (λ k e. grind (arith, e)) in
       record { calls = []; whole = goes (Weigh w') h ∙ ap (λ ks. scan (state w' layout ks (after_weights s)) (line + 1) (parts 10 more)) none; again = refl; none_yet = λ _. refl }
 
   pub lays : (r b : ℕ) → Ok (Lay r b) ≡ line_change layout s line bytes
-      → Sofar first table text w (slice_set layout r b) s (line + 1) more more (line + 1) s
+      → Sofar first table text w (slice_set layout r b) s (line + 1) more more
   lays r b h =
       let none = before_steps (Lay r b) h (λ k e. grind (arith, e)) in
       record { calls = []; whole = goes (Lay r b) h ∙ ap (λ ks. scan (state w (slice_set layout r b) ks s) (line + 1) (parts 10 more)) none; again = refl; none_yet = λ _. refl }
 
   pub acts : (k : Call) → Ok (Make k) ≡ line_change layout s line bytes
-      → Sofar first table text w layout Steps (line + 1) more from at of
+      → Sofar first table text w layout Steps (line + 1) more from
   acts k h =
       record {
         calls = sofar.calls ++ k ∷ [];
         whole = goes (Make k) h;
-        again = sofar.again ∙ ap (λ ks. sofar.calls ++ ks) (calls_first layout s line rest bytes more cut k (ap made h)) ∙ sym (append_assoc sofar.calls (k ∷ []) (calls_from layout Steps (line + 1) (parts 10 more)));
+        again = sofar.again ∙ ap (λ ks. sofar.calls ++ ks) (calls_first layout rest bytes more cut k (ap made (anywhere layout s line bytes k h))) ∙ sym (append_assoc sofar.calls (k ∷ []) (calls_from layout (parts 10 more)));
         none_yet = λ n. absurd (n refl);
       }
 
-module _ (first : Section) (table text : List ℕ) (w : Prices) (layout : List ℕ) (s : Section) (line : ℕ) (rest from : List ℕ) (at : ℕ) (of : Section)
-    (sofar : Sofar first table text w layout s line rest from at of) (cut : parts 10 rest ≡ rest ∷ []) where
+module _ (first : Section) (table text : List ℕ) (w : Prices) (layout : List ℕ) (s : Section) (line : ℕ) (rest from : List ℕ)
+    (sofar : Sofar first table text w layout s line rest from) (cut : parts 10 rest ≡ rest ∷ []) where
   at_end : scan (start first table) 1 (parts 10 text) ≡ and_then (ended s line rest) (λ _. Ok (state w layout sofar.calls s))
   unfolding scan
   at_end = sofar.whole ∙ ap (scan (state w layout sofar.calls s) line) cut
 
-  all_calls : calls_from layout of at (parts 10 from) ≡ sofar.calls
-  all_calls = sofar.again ∙ ap (λ ks. sofar.calls ++ ks) (calls_last layout s line rest cut) ∙ append-nil sofar.calls
+  all_calls : calls_from layout (parts 10 from) ≡ sofar.calls
+  all_calls = sofar.again ∙ ap (λ ks. sofar.calls ++ ks) (calls_last layout rest cut) ∙ append-nil sofar.calls
 
   pub ends : (o : Result (Unit {0}) Fault) → o ≡ ended s line rest → o ≡ Ok tt
-      → scan (start first table) 1 (parts 10 text) ≡ Ok (state w layout (calls_from layout of at (parts 10 from)) s)
+      → scan (start first table) 1 (parts 10 text) ≡ Ok (state w layout (calls_from layout (parts 10 from)) s)
   ends o e f = at_end ∙ ap (λ r. and_then r (λ _. Ok (state w layout sofar.calls s))) (sym e ∙ f) ∙ ap (λ ks. Ok (state w layout ks s)) (sym all_calls)
 
   pub ends_badly : (e : Fault) → Err e ≡ ended s line rest → scan (start first table) 1 (parts 10 text) ≡ Err e

@@ -1,8 +1,7 @@
 -- The steps of a text, as they are read again.
-use Rattle.std.specs.Prelude.{ℕ, ◌+◌, List, [], ◌∷◌, length, Some, None, Ok, Err, Option, Result}
+use Rattle.std.specs.Prelude.{ℕ, List, [], ◌∷◌, length, Some, None, Ok, Err, Option, Result}
 use Rattle.fields.specs.Parts.{parts}
 use Rattle.protocol.specs.declared.call.Call.{Call}
-use Rattle.records.specs.declared.keyword.Section.{Section}
 use Rattle.records.specs.declared.keyword.Section.TheVariants.{Steps}
 use Rattle.scenario.specs.declared.change.Change.{Change}
 use Rattle.scenario.specs.declared.change.Change.TheVariants.{Weigh, Lay, Make}
@@ -21,14 +20,14 @@ abbrev pub onto : Option Call → List Call → List Call
 onto None ks = []
 onto (Some k) ks = k ∷ ks
 
--- the calls of the lines from number `line` on, up to the first that makes none
-unfoldable pub calls_from : List ℕ → Section → ℕ → List (List ℕ) → List Call
-calls_from layout s line [] = []
-calls_from layout s line (p ∷ []) = []
-calls_from layout s line (p ∷ q ∷ ps) = onto (made (line_change layout s line p)) (calls_from layout Steps (line + 1) (q ∷ ps))
+-- the calls of the lines, up to the first that makes none; where a line stands makes no difference to its call
+unfoldable pub calls_from : List ℕ → List (List ℕ) → List Call
+calls_from layout [] = []
+calls_from layout (p ∷ []) = []
+calls_from layout (p ∷ q ∷ ps) = onto (made (line_change layout Steps 1 p)) (calls_from layout (q ∷ ps))
 
 abbrev pub calls_in : List ℕ → StepsOfText → List Call
-calls_in layout t = calls_from layout t.section t.line (parts 10 t.rest.now)
+calls_in layout t = calls_from layout (parts 10 t.rest.now)
 
 abbrev pub bytes_left : StepsOfText → ℕ
 bytes_left t = length t.rest.now

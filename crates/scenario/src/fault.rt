@@ -1,6 +1,5 @@
 //! What may be wrong with a scenario.
 ghost use Rattle.std.specs.Prelude.{◌≡◌};
-ghost use Rattle.scenario.specs.declared.fault.Layer.TheVariants.{Text, Layout};
 ghost use Rattle.scenario.specs.Faults.{spelling, file_spelling, told};
 
 use protocol::refusal::Refusal;
@@ -81,14 +80,6 @@ impl File {
     }
 }
 
-impl FileFault {
-    pub fn of(file: File, fault: Fault) -> FileFault
-        ensures { result ≡ record { file = file; fault = fault } }
-    {
-        FileFault { file, fault }
-    }
-}
-
 /// Where a fault comes from.
 #[derive(Clone, Copy)]
 pub enum Layer {
@@ -120,22 +111,11 @@ pub struct Told {
 }
 
 impl Told {
-    fn text(line: u32, field: u32, number: u8) -> Told
-        ensures { result ≡ told Text line field number }
+    fn at(layer: Layer, line: u32, field: u32, number: u8) -> Told
+        ensures { result ≡ told layer line field number }
     {
         Told {
-            layer: Layer::Text,
-            line,
-            field,
-            number,
-        }
-    }
-
-    fn layout(line: u32, field: u32, number: u8) -> Told
-        ensures { result ≡ told Layout line field number }
-    {
-        Told {
-            layer: Layer::Layout,
+            layer,
             line,
             field,
             number,
@@ -151,20 +131,15 @@ impl From<Fault> for Told {
 
     fn from(fault: Fault) -> Told {
         match fault {
-            Fault::Text(TextFault::TooLong) => Told::text(0, 0, 15),
-            Fault::Text(TextFault::Unended { line }) => Told::text(line, 0, 16),
-            Fault::Text(TextFault::Misplaced { line }) => Told::text(line, 1, 17),
-            Fault::Text(TextFault::Miscounted { line }) => Told::text(line, 0, 18),
-            Fault::Text(TextFault::NotANumber(at)) => Told::text(at.line, at.field, 19),
-            Fault::Layout(LayoutFault::BadTable) => Told::layout(0, 0, 14),
-            Fault::Layout(LayoutFault::Taken(at)) => Told::layout(at.line, at.field, 20),
-            Fault::Layout(LayoutFault::Unplaced(at)) => Told::layout(at.line, at.field, 21),
-            Fault::Study(refusal) => Told {
-                layer: Layer::Study,
-                line: 1,
-                field: 0,
-                number: u8::from(refusal),
-            },
+            Fault::Text(TextFault::TooLong) => Told::at(Layer::Text, 0, 0, 15),
+            Fault::Text(TextFault::Unended { line }) => Told::at(Layer::Text, line, 0, 16),
+            Fault::Text(TextFault::Misplaced { line }) => Told::at(Layer::Text, line, 1, 17),
+            Fault::Text(TextFault::Miscounted { line }) => Told::at(Layer::Text, line, 0, 18),
+            Fault::Text(TextFault::NotANumber(at)) => Told::at(Layer::Text, at.line, at.field, 19),
+            Fault::Layout(LayoutFault::BadTable) => Told::at(Layer::Layout, 0, 0, 14),
+            Fault::Layout(LayoutFault::Taken(at)) => Told::at(Layer::Layout, at.line, at.field, 20),
+            Fault::Layout(LayoutFault::Unplaced(at)) => Told::at(Layer::Layout, at.line, at.field, 21),
+            Fault::Study(refusal) => Told::at(Layer::Study, 1, 0, u8::from(refusal)),
         }
     }
 }

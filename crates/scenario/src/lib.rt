@@ -1,7 +1,7 @@
 //! Scenarios: a text of weights, placements and steps, read without a heap.
 #![tactic(auto)]
 
-pub mod change;
+mod change;
 pub mod fault;
 pub mod layout;
 pub mod reader;

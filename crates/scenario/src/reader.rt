@@ -55,17 +55,17 @@ fn lines<'t>(text: &'t [u8], layout: &mut [u32], first: Section) -> Result<Text<
     let mut section = first;
     let mut line: u32 = 1;
     let mut rest = text;
-    let mut steps = Steps::at(text, 1, first);
+    let mut steps = Steps::at(text);
     while let Some((bytes, more)) = cut(rest, LINE_FEED) {
         match line_change(bytes, line, section, layout)? {
             Change::Weigh(given) => {
                 prices = given;
                 section = after_weights(section);
-                steps = Steps::at(more, line + 1, section);
+                steps = Steps::at(more);
             }
             Change::Lay { reference, block } => {
                 lay(layout, reference, block);
-                steps = Steps::at(more, line + 1, section);
+                steps = Steps::at(more);
             }
             Change::Make(_) => section = Section::Steps,
         }

@@ -1,16 +1,12 @@
 //! The steps of a text.
-ghost use Rattle.std.specs.Prelude.{◌≤◌, ◌+◌, length};
+ghost use Rattle.std.specs.Prelude.{◌≤◌, length};
 
-use records::keyword::Section;
-
-pub mod first;
+mod first;
 
 /// Where the steps of a text that was read begin, or go on.
 #[derive(Clone, Copy)]
 pub struct Steps<'t> {
     rest: &'t [u8],
-    line: u32,
-    section: Section,
-    // a text has at most 65,536 bytes, and a line has one at least
-    ghost few: { line + length rest.now ≤ 65537 },
+    // the steps of one text
+    ghost few: { length rest.now ≤ 65536 },
 }

@@ -31,9 +31,12 @@ pub fn single<'t>(
     ensures table { layout.new ≡ laid 256 (single_of placement.now schedule.now) }
 {
     unplace(layout);
-    read(placement, layout, Section::Placement).map_err(|fault| FileFault::of(
-        File::Placement,
+    read(placement, layout, Section::Placement).map_err(|fault| FileFault {
+        file: File::Placement,
         fault,
-    ))?;
-    read(schedule, layout, Section::Schedule).map_err(|fault| FileFault::of(File::Schedule, fault))
+    })?;
+    read(schedule, layout, Section::Schedule).map_err(|fault| FileFault {
+        file: File::Schedule,
+        fault,
+    })
 }

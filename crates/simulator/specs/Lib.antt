@@ -1,3 +1,3 @@
-pub mod Report
 pub mod Simulation
-pub mod Begun
+pub mod Report
+pub mod Inner

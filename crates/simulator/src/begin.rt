@@ -5,7 +5,7 @@ ghost use Rattle.study.specs.Opening.{started};
 ghost use Rattle.study.specs.Stages.{weighed_as, answer_of};
 ghost use Rattle.study.specs.Warrant.{Warranted};
 ghost use Rattle.protocol.specs.Weighing.{prices_of};
-ghost use Rattle.simulator.specs.Begun.{begun_as};
+ghost use Rattle.simulator.specs.Inner.{begun_as};
 ghost use Rattle.simulator.specs.Simulation.{as_study};
 
 use memory::Memory;

@@ -2,7 +2,7 @@
 #![tactic(auto)]
 
 mod begin;
-pub mod form;
 mod output;
 mod play;
 pub mod simulate;
+pub mod telling;

@@ -1,14 +1,14 @@
 //! Lines that are written as long as writing succeeds.
 ghost use Rattle.std.specs.Prelude.{◌≡◌, OnOk, IsOk};
 ghost use Rattle.std.specs.Io.KnownBytes.{Appends};
-ghost use Rattle.simulator.specs.Report.{line_text};
+ghost use Rattle.simulator.specs.Inner.{line_text};
 
 use report::line::Line;
 use std::io;
 use std::io::Write;
 
 // Writes a line, if there is one and unless an earlier one was not written.
-#[tactic(auto, using(crate::proofs::Telling::appends_none))]
+#[tactic(auto, using(crate::proofs::Playing::appends_none))]
 pub(crate) fn write<W: Write>(
     out: &mut W,
     written: io::Result<()>,

@@ -4,9 +4,11 @@ ghost use Rattle.std.specs.Io.KnownBytes.{Appends};
 ghost use Rattle.study.specs.Play.{played, history};
 ghost use Rattle.study.specs.Stages.{run_of};
 ghost use Rattle.scenario.specs.Steps.{calls_in};
+ghost use Rattle.report.specs.Lines.{text_of};
+ghost use Rattle.report.specs.Reading.{ReadBack};
 ghost use Rattle.simulator.specs.Report.{turn_lines};
 
-use crate::form::Telling;
+use crate::telling::Telling;
 use crate::output::write;
 use memory::Memory;
 use row::Row;
@@ -24,7 +26,8 @@ pub(crate) fn play<R: Row, M: Memory, W: Write, T: Telling>(
     out: &mut W,
 ) -> io::Result<()>
     ensures run { run_of R.cores M.meaning run.new ≡ played (run_of R.cores M.meaning run.old) (calls_in layout.now steps.entry) }
-    ensures lines { OnOk result (Appends (W.contents out.old) (W.contents out.new) (turn_lines (T.form telling.now) 1 (history (run_of R.cores M.meaning run.old) (calls_in layout.now steps.entry)))) }
+    ensures lines { OnOk result (Appends (W.contents out.old) (W.contents out.new) (text_of (turn_lines (T.form telling.now) 1 (history (run_of R.cores M.meaning run.old) (calls_in layout.now steps.entry))))) }
+    ensures reads_back { ReadBack (turn_lines (T.form telling.now) 1 (history (run_of R.cores M.meaning run.old) (calls_in layout.now steps.entry))) }
 {
     let mut written = Ok(());
     let mut rest = steps;

@@ -1,16 +1,16 @@
 //! The whole way, from the bytes of a scenario to those of its report.
-ghost use Rattle.std.specs.Prelude.{◌≡◌, OnOk, IfErr};
+ghost use Rattle.std.specs.Prelude.{◌≡◌, OnOk};
 ghost use Rattle.std.specs.Io.KnownBytes.{Appends};
-ghost use Rattle.study.specs.Settling.{quoted, cores_after, memory_after};
-ghost use Rattle.study.specs.Warrant.{Warranted};
 ghost use Rattle.scenario.specs.Texts.{scenario_of};
-ghost use Rattle.simulator.specs.Report.{in_full, report_of};
-ghost use Rattle.simulator.specs.Simulation.{asked, opened, schedule_of, prices_of, layout_after, table_left};
+ghost use Rattle.report.specs.Lines.{text_of};
+ghost use Rattle.report.specs.Reading.{ReadBack};
+ghost use Rattle.simulator.specs.Report.{in_full, report_lines};
+ghost use Rattle.simulator.specs.Simulation.{text_read, study_of, layout_after, table_left, IsSimulated};
 
 use crate::begin::begin;
-use crate::form::{InFull, Telling};
 use crate::output::write;
 use crate::play::play;
+use crate::telling::{InFull, Telling};
 use memory::Memory;
 use row::Row;
 use scenario::fault::Fault;
@@ -32,6 +32,7 @@ pub struct Simulated<R, M> {
 
 /// Plays the study that a text asks for on this row and this memory, and tells it. The layout has to be the one that the text was
 /// read into: under another, the steps end at the first that it does not place.
+#[tactic(auto, using(crate::proofs::Playing::study_told, crate::proofs::Playing::study_reads, crate::proofs::Playing::fault_told, crate::proofs::Playing::fault_reads))]
 pub fn simulate_text<R: Row, M: Memory, W: Write, T: Telling>(
     telling: &T,
     text: Text<'_>,
@@ -40,13 +41,10 @@ pub fn simulate_text<R: Row, M: Memory, W: Write, T: Telling>(
     memory: M,
     report: &mut W,
 ) -> Simulated<R, M>
-    ensures outcome { result.outcome ≡ quoted (opened (asked text.entry layout.old) (R.cores row) (M.meaning memory)) (schedule_of (asked text.entry layout.old)) }
-    ensures row { R.cores result.row ≡ cores_after (opened (asked text.entry layout.old) (R.cores row) (M.meaning memory)) (R.cores row) (schedule_of (asked text.entry layout.old)) }
-    ensures memory { M.meaning result.memory ≡ memory_after (opened (asked text.entry layout.old) (R.cores row) (M.meaning memory)) (M.meaning memory) (schedule_of (asked text.entry layout.old)) }
-    ensures back { IfErr result.outcome (λ _. (result.row ≡ row) × (result.memory ≡ memory)) }
-    ensures table { layout.new ≡ layout_after (opened (asked text.entry layout.old) (R.cores row) (M.meaning memory)) layout.old }
-    ensures report { OnOk result.written (Appends (W.contents report.old) (W.contents report.new) (report_of (T.form telling.now) (opened (asked text.entry layout.old) (R.cores row) (M.meaning memory)) (schedule_of (asked text.entry layout.old)))) }
-    ensures warrant { OnOk result.outcome (Warranted (R.cores row) (M.meaning memory) (prices_of (asked text.entry layout.old))) }
+    ensures study { IsSimulated R.cores M.meaning (text_read text.entry layout.old) row memory result }
+    ensures table { layout.new ≡ layout_after (study_of (text_read text.entry layout.old) (R.cores row) (M.meaning memory)) layout.old }
+    ensures report { OnOk result.written (Appends (W.contents report.old) (W.contents report.new) (text_of (report_lines (T.form telling.now) (text_read text.entry layout.old) (R.cores row) (M.meaning memory)))) }
+    ensures reads_back { ReadBack (report_lines (T.form telling.now) (text_read text.entry layout.old) (R.cores row) (M.meaning memory)) }
 {
     let mut run = match begin(text.prices, row, memory) {
         Ok(run) => run,
@@ -74,6 +72,7 @@ pub fn simulate_text<R: Row, M: Memory, W: Write, T: Telling>(
 /// Reads a scenario, plays its study on this row and this memory, and writes the report. A scenario with a fault leaves the
 /// layout unplaced (one of another length as it was), and touches neither row nor memory. All steps are played even where the
 /// report cannot be written.
+#[tactic(auto, using(crate::proofs::Playing::unread_told, crate::proofs::Playing::unread_reads))]
 pub fn simulate<R: Row, M: Memory, W: Write>(
     text: &[u8],
     layout: &mut [u32],
@@ -81,13 +80,10 @@ pub fn simulate<R: Row, M: Memory, W: Write>(
     memory: M,
     report: &mut W,
 ) -> Simulated<R, M>
-    ensures outcome { result.outcome ≡ quoted (opened (scenario_of layout.old text.now) (R.cores row) (M.meaning memory)) (schedule_of (scenario_of layout.old text.now)) }
-    ensures row { R.cores result.row ≡ cores_after (opened (scenario_of layout.old text.now) (R.cores row) (M.meaning memory)) (R.cores row) (schedule_of (scenario_of layout.old text.now)) }
-    ensures memory { M.meaning result.memory ≡ memory_after (opened (scenario_of layout.old text.now) (R.cores row) (M.meaning memory)) (M.meaning memory) (schedule_of (scenario_of layout.old text.now)) }
-    ensures back { IfErr result.outcome (λ _. (result.row ≡ row) × (result.memory ≡ memory)) }
-    ensures table { layout.new ≡ table_left (opened (scenario_of layout.old text.now) (R.cores row) (M.meaning memory)) layout.old (scenario_of layout.old text.now) }
-    ensures report { OnOk result.written (Appends (W.contents report.old) (W.contents report.new) (report_of in_full (opened (scenario_of layout.old text.now) (R.cores row) (M.meaning memory)) (schedule_of (scenario_of layout.old text.now)))) }
-    ensures warrant { OnOk result.outcome (Warranted (R.cores row) (M.meaning memory) (prices_of (scenario_of layout.old text.now))) }
+    ensures study { IsSimulated R.cores M.meaning (scenario_of layout.old text.now) row memory result }
+    ensures table { layout.new ≡ table_left (study_of (scenario_of layout.old text.now) (R.cores row) (M.meaning memory)) layout.old (scenario_of layout.old text.now) }
+    ensures report { OnOk result.written (Appends (W.contents report.old) (W.contents report.new) (text_of (report_lines in_full (scenario_of layout.old text.now) (R.cores row) (M.meaning memory)))) }
+    ensures reads_back { ReadBack (report_lines in_full (scenario_of layout.old text.now) (R.cores row) (M.meaning memory)) }
 {
     match scenario(text, layout) {
         Ok(read) => simulate_text(&InFull, read, layout, row, memory, report),

@@ -13,8 +13,8 @@ use Rattle.scenario.specs.declared.fault.Fault.TheVariants.{Layout}
 use Rattle.scenario.specs.declared.fault.LayoutFault.TheVariants.{BadTable}
 use Rattle.scenario.specs.Reading.{a_read, section_of}
 use Rattle.scenario.specs.Texts.{unplaced, scenario_of}
-use Rattle.simulator.specs.Report.{in_full, report_of, turn_lines}
-use Rattle.simulator.specs.Simulation.{opened, schedule_of}
+use Rattle.report.specs.Lines.{text_of}
+use Rattle.simulator.specs.Report.{in_full, report_lines, turn_lines}
 use Rattle.machine.specs.Machine.{two_cores}
 use Rattle.examples.specs.Nine.{weights, blocks, nine, scenario_text, layout}
 use Rattle.examples.proofs.examples_hold.Goals as goal
@@ -24,7 +24,7 @@ unfolding parts weights_of line_change scan section_of
 read t e = ap (λ n. cond (n == 256) (section_of Scenario unplaced scenario_text) (Err (Layout BadTable))) e
 
 pub returns-clause-hold : goal.returns-clause-hold
-unfolding step played history absent core_at place invalidated met awaited renewed zeroed turn_lines digits
+unfolding step played history absent core_at place invalidated met awaited renewed zeroed text_of turn_lines digits
 returns-clause-hold c = record {
   direct_two = refl;
   set_touched = refl;
@@ -41,5 +41,5 @@ returns-clause-hold c = record {
   nine_history = λ a. refl;
   nine_tally = λ a. refl;
   nine_lent = λ a. refl;
-  nine_report = λ a t e. ap (λ r. report_of in_full (opened r two_cores (blocks a)) (schedule_of r)) (read t e);
+  nine_report = λ a t e. ap (λ r. text_of (report_lines in_full r two_cores (blocks a))) (read t e);
 }

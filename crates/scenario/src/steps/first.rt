@@ -1,5 +1,5 @@
 //! The steps of a text, one after another.
-ghost use Rattle.std.specs.Prelude.{◌≡◌, ◌<◌, ◌≤◌, ◌+◌, IfSome, MatchOption, length, [], ◌∷◌};
+ghost use Rattle.std.specs.Prelude.{◌≡◌, ◌<◌, ◌≤◌, IfSome, MatchOption, length, [], ◌∷◌};
 ghost use Rattle.scenario.specs.Steps.{made, calls_in, bytes_left};
 
 use crate::change::{Change, line_change};
@@ -20,15 +20,11 @@ fn made(change: Result<Change, Fault>) -> Option<Call>
 }
 
 impl<'t> Steps<'t> {
-    pub(crate) fn at(rest: &'t [u8], line: u32, section: Section) -> Steps<'t>
-        requires { line + length rest.now ≤ 65537 }
-        ensures { (result.rest.now ≡ rest.now) × (result.line ≡ line) × (result.section ≡ section) }
+    pub(crate) fn at(rest: &'t [u8]) -> Steps<'t>
+        requires { length rest.now ≤ 65536 }
+        ensures { result.rest.now ≡ rest.now }
     {
-        Steps {
-            rest,
-            line,
-            section,
-        }
+        Steps { rest }
     }
 
     /// The next call, and the steps after it; none at the end.
@@ -38,12 +34,8 @@ impl<'t> Steps<'t> {
         ensures shorter { IfSome result (λ x. bytes_left x.1 < bytes_left self.entry) }
     {
         let (bytes, more) = cut(self.rest, LINE_FEED)?;
-        let call = made(line_change(bytes, self.line, self.section, layout))?;
-        let after = Steps {
-            rest: more,
-            line: self.line + 1,
-            section: Section::Steps,
-        };
-        Some((call, after))
+        // the number of the line tells where a fault is, and a line of a text that was read has none
+        let call = made(line_change(bytes, 1, Section::Steps, layout))?;
+        Some((call, Steps { rest: more }))
     }
 }

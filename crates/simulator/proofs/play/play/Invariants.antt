@@ -1,8 +1,10 @@
 use Rattle.std.proofs.Common.{◌≡◌, ◌≤◌, ◌+◌, OnOk}
+use Rattle.std.specs.Io.KnownBytes.{Appends}
 use Rattle.study.specs.Play.{played}
 use Rattle.study.specs.Stages.{run_of}
 use Rattle.scenario.specs.Steps.{calls_in, bytes_left}
-use Rattle.simulator.proofs.Telling.{Told}
+use Rattle.report.specs.Lines.{text_of}
+use Rattle.simulator.proofs.Playing.{Told}
 use Rattle.simulator.proofs.play.play.Given as goal
 
 abbrev pub invariant-loop-call : goal.invariant-loop-call
@@ -13,7 +15,8 @@ invariant-loop-call g l =
     let ks₀ = calls_in l.layout l.steps in
     (l.number + bytes_left l.rest ≤ 65538)
     × (played r ks ≡ played r₀ ks₀)
-    × OnOk l.written (Told (g.T.Telling.form l.telling) r r₀ ks ks₀ l.number (g.W.Write.contents l.out) (g.W.Write.contents l.initial.out))
+    × (t : Told (g.T.Telling.form l.telling) r r₀ ks ks₀ l.number)
+    × OnOk l.written (Appends (g.W.Write.contents l.initial.out) (g.W.Write.contents l.out) (text_of t.done))
 
 abbrev pub decreases-loop-call : goal.decreases-loop-call
 decreases-loop-call g l = bytes_left l.rest

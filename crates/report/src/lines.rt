@@ -1,9 +1,8 @@
 //! The lines of a report: what became of a step, a quote, a fault.
-ghost use Rattle.std.specs.Prelude.{◌≡◌, ◌+◌, ◌^◌, ◌<◌, ◌≤◌, ◌∷◌, ◌++◌, length, Some, IfSome};
-ghost use Rattle.study.specs.Quotes.{figure_text};
+ghost use Rattle.std.specs.Prelude.{◌≡◌, ◌+◌, ◌^◌, ◌<◌, ◌≤◌, [], ◌∷◌, ◌++◌, length, IfSome};
 ghost use Rattle.scenario.specs.Faults.{told_of};
-ghost use Rattle.report.specs.Lines.{row, step_line, quote_line, told_fields, fault_line};
-ghost use Rattle.report.specs.Reading.{read_back, step_read, quote_read, told_read, fault_read};
+ghost use Rattle.report.specs.Lines.{written, line_of, step_fields, figure_field, quote_fields, told_fields, fault_fields};
+ghost use Rattle.report.specs.Reading.{ReadsAs};
 
 use crate::line::Line;
 use fields::{LINE_FEED, TAB};
@@ -16,8 +15,8 @@ impl Line {
     /// What became of a step: its number, the word, the value, and the total after it.
     #[tactic(auto, using(crate::proofs::Readings::step))]
     pub fn of_step(number: u32, played: &Played) -> Line
-        ensures text { result ≡ step_line number played.now }
-        ensures reads_back { read_back result ≡ Some (step_read number played.now) }
+        ensures text { result ≡ line_of (step_fields number played.now) }
+        ensures reads_back { ReadsAs result (step_fields number played.now ∷ []) }
     {
         let mut line = Line::empty();
         line.prepend_number(played.total, LINE_FEED);
@@ -30,8 +29,8 @@ impl Line {
     /// A quote: accesses, total, and the figure, or `-` where there is none.
     #[tactic(auto, using(crate::proofs::Readings::quote))]
     pub fn of_quote(quote: &Quote) -> Line
-        ensures text { result ≡ quote_line quote.now }
-        ensures reads_back { read_back result ≡ Some (quote_read quote.now) }
+        ensures text { result ≡ line_of (quote_fields quote.now) }
+        ensures reads_back { ReadsAs result (quote_fields quote.now ∷ []) }
         ensures short { length result ≤ 69 }
     {
         let mut line = Line::empty();
@@ -45,8 +44,8 @@ impl Line {
     /// A fault: its layer, line, field and number.
     #[tactic(auto, using(crate::proofs::Readings::fault))]
     pub fn of_fault(fault: Fault) -> Line
-        ensures text { result ≡ fault_line fault }
-        ensures reads_back { read_back result ≡ Some (fault_read fault) }
+        ensures text { result ≡ line_of (fault_fields fault) }
+        ensures reads_back { ReadsAs result (fault_fields fault ∷ []) }
     {
         let mut line = Line::of_told(fault);
         line.prepend_text(b"fault", TAB);
@@ -56,7 +55,7 @@ impl Line {
     // Puts a figure, or `-` where there is none, and the byte that ends it before the line.
     fn prepend_figure(&mut self, figure: Option<u64>, end: u8)
         requires { length self.old + 21 ≤ 96 }
-        ensures text { self.new ≡ figure_text figure ++ end ∷ self.old }
+        ensures text { self.new ≡ written (figure_field figure) ++ end ∷ self.old }
         ensures length { length self.new ≤ length self.old + 21 }
         ensures fits { IfSome figure (λ f. f < 2 ^ 64) }
     {
@@ -69,8 +68,8 @@ impl Line {
     // The fields of a fault without the word before them.
     #[tactic(auto, using(crate::proofs::Readings::told))]
     pub(crate) fn of_told(fault: Fault) -> Line
-        ensures text { result ≡ row (told_fields (told_of fault)) }
-        ensures reads_back { read_back result ≡ Some (told_read (told_of fault)) }
+        ensures text { result ≡ line_of (told_fields (told_of fault)) }
+        ensures reads_back { ReadsAs result (told_fields (told_of fault) ∷ []) }
         ensures short { length result ≤ 70 }
     {
         let told = Told::from(fault);

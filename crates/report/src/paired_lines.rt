@@ -1,8 +1,8 @@
 //! The lines of a paired study.
-ghost use Rattle.std.specs.Prelude.{◌≡◌, ◌≤◌, length, Some, None};
-ghost use Rattle.report.specs.Lines.{row};
-ghost use Rattle.report.specs.Pairs.{side_spelling, refusal_fields, refused_line, side_quote_line, side_fault_line, cheaper, difference_line, refusal_read, refused_read, side_quote_read, side_fault_read, difference_read};
-ghost use Rattle.report.specs.Reading.{read_back};
+ghost use Rattle.std.specs.Prelude.{◌≡◌, ◌≤◌, [], ◌∷◌, length, Some, None};
+ghost use Rattle.report.specs.Lines.{line_of};
+ghost use Rattle.report.specs.Pairs.{side_spelling, refusal_fields, refused_fields, side_quote_fields, side_fault_fields, cheaper, difference_fields};
+ghost use Rattle.report.specs.Reading.{ReadsAs};
 
 use crate::line::Line;
 use fields::{LINE_FEED, TAB};
@@ -18,8 +18,8 @@ pub enum Side {
 }
 
 impl Side {
-    /// The side as a line spells it.
-    pub fn bytes(self) -> &'static [u8]
+    // The side as a line spells it.
+    fn bytes(self) -> &'static [u8]
         ensures { result.now ≡ side_spelling self }
     {
         match self {
@@ -33,8 +33,8 @@ impl Line {
     /// A refused step of a side, by its number among the steps, and the number of the refusal.
     #[tactic(auto, using(crate::proofs::Readings::side_line))]
     pub fn of_refused(side: Side, step: u32, refusal: Refusal) -> Line
-        ensures text { result ≡ refused_line side step refusal }
-        ensures reads_back { read_back result ≡ Some (refused_read side step refusal) }
+        ensures text { result ≡ line_of (refused_fields side step refusal) }
+        ensures reads_back { ReadsAs result (refused_fields side step refusal ∷ []) }
     {
         let mut line = Line::of_refusal(step, refusal);
         line.prepend_text(side.bytes(), TAB);
@@ -44,8 +44,8 @@ impl Line {
     // The line of a refused step without its side.
     #[tactic(auto, using(crate::proofs::Readings::refusal))]
     fn of_refusal(step: u32, refusal: Refusal) -> Line
-        ensures text { result ≡ row (refusal_fields step refusal) }
-        ensures reads_back { read_back result ≡ Some (refusal_read step refusal) }
+        ensures text { result ≡ line_of (refusal_fields step refusal) }
+        ensures reads_back { ReadsAs result (refusal_fields step refusal ∷ []) }
         ensures short { length result ≤ 50 }
     {
         let mut line = Line::empty();
@@ -58,8 +58,8 @@ impl Line {
     /// The quote of a side.
     #[tactic(auto, using(crate::proofs::Readings::side_line))]
     pub fn of_side_quote(side: Side, quote: &Quote) -> Line
-        ensures text { result ≡ side_quote_line side quote.now }
-        ensures reads_back { read_back result ≡ Some (side_quote_read side quote.now) }
+        ensures text { result ≡ line_of (side_quote_fields side quote.now) }
+        ensures reads_back { ReadsAs result (side_quote_fields side quote.now ∷ []) }
     {
         let mut line = Line::of_quote(quote);
         line.prepend_text(side.bytes(), TAB);
@@ -69,8 +69,8 @@ impl Line {
     /// The fault of a side, and which of its files has it.
     #[tactic(auto, using(crate::proofs::Readings::side_fault))]
     pub fn of_side_fault(side: Side, file: File, fault: Fault) -> Line
-        ensures text { result ≡ side_fault_line side file fault }
-        ensures reads_back { read_back result ≡ Some (side_fault_read side file fault) }
+        ensures text { result ≡ line_of (side_fault_fields side file fault) }
+        ensures reads_back { ReadsAs result (side_fault_fields side file fault ∷ []) }
     {
         let mut line = Line::of_told(fault);
         line.prepend_text(file.bytes(), TAB);
@@ -81,8 +81,8 @@ impl Line {
 
     /// The difference of the figures of the sides, and which of them is cheaper; none where a side has no figure.
     pub fn of_difference(a: Option<u64>, b: Option<u64>) -> Line
-        ensures text { result ≡ difference_line a b }
-        ensures reads_back { read_back result ≡ Some (difference_read a b) }
+        ensures text { result ≡ line_of (difference_fields a b) }
+        ensures reads_back { ReadsAs result (difference_fields a b ∷ []) }
     {
         match (a, b) {
             (Some(a), Some(b)) => Line::of_figures(a, b),
@@ -92,8 +92,8 @@ impl Line {
 
     #[tactic(auto, using(crate::proofs::Readings::difference))]
     fn of_figures(a: u64, b: u64) -> Line
-        ensures text { result ≡ difference_line (Some a) (Some b) }
-        ensures reads_back { read_back result ≡ Some (difference_read (Some a) (Some b)) }
+        ensures text { result ≡ line_of (difference_fields (Some a) (Some b)) }
+        ensures reads_back { ReadsAs result (difference_fields (Some a) (Some b) ∷ []) }
     {
         let mut line = Line::empty();
         line.prepend_text(cheaper(a, b), LINE_FEED);
@@ -104,8 +104,8 @@ impl Line {
 
     #[tactic(auto, using(crate::proofs::Readings::no_difference))]
     fn of_no_figure() -> Line
-        ensures text { result ≡ difference_line None None }
-        ensures reads_back { read_back result ≡ Some (difference_read None None) }
+        ensures text { result ≡ line_of (difference_fields None None) }
+        ensures reads_back { ReadsAs result (difference_fields None None ∷ []) }
     {
         let mut line = Line::empty();
         line.prepend_text(b"-", LINE_FEED);

@@ -1,29 +1,34 @@
 //! How a study is told.
-ghost use Rattle.std.specs.Prelude.{◌≡◌};
-ghost use Rattle.simulator.specs.Report.{Form, in_full, by_side, line_text};
+ghost use Rattle.std.specs.Prelude.{◌≡◌, IfSome, option_map, [], ◌∷◌};
+ghost use Rattle.report.specs.Lines.{line_of};
+ghost use Rattle.report.specs.Reading.{ReadsAs};
+ghost use Rattle.simulator.specs.Report.{Form, in_full, by_side};
 
 use report::line::Line;
-use report::paired::Side;
+use report::paired_lines::Side;
 use scenario::fault::{Fault, File};
 use study::quote::Quote;
 use study::turn::Played;
 
 /// A way to tell a study, line by line.
 pub trait Telling {
-    // what is written of each step, of the quote and of a fault
+    // the lines of each step, of the quote and of a fault
     ghost form: { Self → Form };
 
     /// The line of a step, if it has one.
     fn turn(&self, number: u32, played: &Played) -> Option<Line>
-        ensures { line_text result ≡ (form self.now).turn number played.now };
+        ensures text { result ≡ option_map line_of ((form self.now).turn number played.now) }
+        ensures reads_back { IfSome ((form self.now).turn number played.now) (λ fs. ReadsAs (line_of fs) (fs ∷ [])) };
 
     /// The line of the quote.
     fn quote(&self, quote: &Quote) -> Line
-        ensures { result ≡ (form self.now).quote quote.now };
+        ensures text { result ≡ line_of ((form self.now).quote quote.now) }
+        ensures reads_back { ReadsAs result ((form self.now).quote quote.now ∷ []) };
 
     /// The line of a fault, in place of all others.
     fn fault(&self, fault: Fault) -> Line
-        ensures { result ≡ (form self.now).fault fault };
+        ensures text { result ≡ line_of ((form self.now).fault fault) }
+        ensures reads_back { ReadsAs result ((form self.now).fault fault ∷ []) };
 }
 
 /// The telling of a report: a line for each step.
