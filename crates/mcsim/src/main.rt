@@ -2,7 +2,7 @@
 #![tactic(auto)]
 
 use anyhow::anyhow;
-use machine::two_cores;
+use machine::{BLOCKS, IN_WORDS, two_cores};
 use memory::cell::{Cell, State};
 use memory::flat::Flat;
 use scenario::layout::{REFERENCES, UNPLACED};
@@ -11,25 +11,25 @@ use std::env;
 use std::fs::File;
 use std::io::{BufWriter, Write};
 
-const HELP: &str = "mcsim: plays a scenario and writes its report
+const USAGE: &str = "mcsim: plays a scenario and writes its report
 
 usage: mcsim [FILE]
 
-The scenario is read from FILE, or from standard input. It is played on two cores, each with a
-direct tier of 2 lines on a set-associative tier of 2 sets of 2 ways, over a memory of 16 blocks.
-docs/SCENARIO.md tells the format of scenarios and reports.
+The scenario is read from FILE, or from standard input. It is played on";
+
+const FORMAT: &str = "docs/SCENARIO.md tells the format of scenarios and reports.
 
 The exit status is 0 whenever a report was written, also that of a fault.";
 
 // The memory of the machine. Opening a study stores a stamp in every cell, so it makes no difference what these hold.
-const BLOCKS: [Cell; 16] = [Cell {
+const TABLE: [Cell; BLOCKS] = [Cell {
     state: State::Stale,
     stamp: 0,
-}; 16];
+}; BLOCKS];
 
 fn report(rt: &HostRuntime, text: &[u8]) -> anyhow::Result<()> {
     let mut layout = [UNPLACED; REFERENCES];
-    let mut table = BLOCKS;
+    let mut table = TABLE;
     let row = two_cores(rt.alloc())?;
     let mut out = BufWriter::new(rt.alloc(), rt.stdout())?;
     let simulated = simulate(text, &mut layout, row, Flat::over(&mut table), &mut out);
@@ -43,7 +43,7 @@ fn run(rt: &HostRuntime) -> anyhow::Result<()> {
     match args.as_slice() {
         [] => report(rt, intake::text(rt.alloc(), rt.stdin())?.as_slice()),
         [word] if word.as_str() == "--help" => {
-            println!(rt; "{HELP}")?;
+            println!(rt; "{USAGE} {IN_WORDS}.\n{FORMAT}")?;
             Ok(())
         }
         [path] => {
