@@ -31,41 +31,29 @@ fn one(heap: Global) -> Result<Core<Direct>, AllocError> {
     Ok(Core::new(tier))
 }
 
-// The first turn with another answer or total, if there is one.
-fn first_wrong(turns: &[Turn], expected: &[(Result<Answer, Refusal>, u64)]) -> Option<usize> {
-    turns.iter().zip(expected.iter()).position(|(turn, (answer, total))| {
-        turn.played
-            != Some(Played {
-                answer: *answer,
-                total: *total,
-            })
-    })
+// A call, and what has to become of it.
+fn turn(call: Call, answer: Result<Answer, Refusal>, total: u64) -> Turn {
+    let played = Some(Played { answer, total });
+    Turn { call, played }
 }
 
 // The calls of the walkthrough, written out again: a test takes no values from a program.
 fn nine<R: Row + Drop>(rt: &impl Abort, row: R) {
-    let mut schedule = [
-        Turn::new(Call::Read(0, 3)),
-        Turn::new(Call::Fetch(0)),
-        Turn::new(Call::Resume(0)),
-        Turn::new(Call::Write(0, 3)),
-        Turn::new(Call::Read(1, 3)),
-        Turn::new(Call::Fetch(1)),
-        Turn::new(Call::Flush(0, 3)),
-        Turn::new(Call::Fetch(1)),
-        Turn::new(Call::Resume(1)),
-    ];
     let expected = [
-        (Ok(Answer::Waits(3)), 0),
-        (Ok(Answer::Brought(3)), 100),
-        (Ok(Answer::Read(0)), 100),
-        (Ok(Answer::Wrote(1)), 100),
-        (Ok(Answer::Waits(3)), 100),
-        (Err(Refusal::StaleBlock), 100),
-        (Ok(Answer::Flushed(3)), 200),
-        (Ok(Answer::Brought(3)), 300),
-        (Ok(Answer::Read(1)), 300),
+        turn(Call::Read(0, 3), Ok(Answer::Waits(3)), 0),
+        turn(Call::Fetch(0), Ok(Answer::Brought(3)), 100),
+        turn(Call::Resume(0), Ok(Answer::Read(0)), 100),
+        turn(Call::Write(0, 3), Ok(Answer::Wrote(1)), 100),
+        turn(Call::Read(1, 3), Ok(Answer::Waits(3)), 100),
+        turn(Call::Fetch(1), Err(Refusal::StaleBlock), 100),
+        turn(Call::Flush(0, 3), Ok(Answer::Flushed(3)), 200),
+        turn(Call::Fetch(1), Ok(Answer::Brought(3)), 300),
+        turn(Call::Resume(1), Ok(Answer::Read(1)), 300),
     ];
+    let mut schedule = expected;
+    for turn in &mut schedule {
+        turn.played = None;
+    }
     let mut table = [OLD; 16];
     let prices = Prices {
         w1: 0,
@@ -83,7 +71,7 @@ fn nine<R: Row + Drop>(rt: &impl Abort, row: R) {
         simulate_in_table(row, &mut table, prices, &mut schedule),
         Ok(expected_quote)
     );
-    assert_eq!(rt; first_wrong(&schedule, &expected), None);
+    assert_eq!(rt; schedule, expected);
     // the table that was lent
     let mut left = [NEW; 16];
     left[3].stamp = 1;
