@@ -4,7 +4,7 @@ use crate::random::Random;
 use std::alloc::{AllocError, Global};
 
 // What is put in, mostly in place of a number or beside one.
-const PIECES: [&[u8]; 35] = [
+static PIECES: [&[u8]; 39] = [
     b"0",
     b"1",
     b"00",
@@ -16,6 +16,10 @@ const PIECES: [&[u8]; 35] = [
     b"65535",
     b"65536",
     b"100000",
+    b"4294967296",
+    b"4294967297",
+    b"4294967299",
+    b"1234567890",
     b"18446744073709551616",
     b"",
     b"-0",
@@ -63,26 +67,35 @@ pub(crate) fn damaged(
     text: &[u8],
 ) -> Result<Vec<u8>, AllocError> {
     let place = random.below(text.len());
-    let next = place.saturating_add(1);
     let (line, line_end) = around(text, place, false);
     let (field, field_end) = around(text, place, true);
-    let next_line = line_end.saturating_add(1);
-    let piece = PIECES[random.below(35) % 35];
-    let bytes = text.get(line..next_line).unwrap_or(b"");
+    let bytes = text.get(line..line_end.saturating_add(1)).unwrap_or(b"");
+    let piece = PIECES[random.below(39) % 39];
     let (start, end, with) = match random.below(13) {
-        0 => (place, next, piece),
+        0 => (place, place.saturating_add(1), piece),
         1 => (place, place, piece),
         2 => (line, line, piece),
         3 => (line_end, line_end, piece),
         4 => (field, field, piece),
         5 => (field_end, field_end, piece),
         6 => (line, line, bytes),
-        7 => (line, next_line, piece),
+        7 => (line, line_end.saturating_add(1), piece),
         8 => (0, 0, bytes),
         9 => (text.len(), text.len(), bytes),
         10 => (place, text.len(), piece),
         _ => (field, field_end, piece),
     };
+    spliced(heap, text, start, end, with)
+}
+
+// The text with other bytes from a place to a place.
+fn spliced(
+    heap: Global,
+    text: &[u8],
+    start: usize,
+    end: usize,
+    with: &[u8],
+) -> Result<Vec<u8>, AllocError> {
     let mut edited = Vec::from_slice(heap, text.get(..start).unwrap_or(text))?;
     edited.extend_from_slice(with)?;
     edited.extend_from_slice(text.get(end..).unwrap_or(b""))?;

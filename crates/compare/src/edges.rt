@@ -1,9 +1,10 @@
 //! Texts at the edges of the format, written out or made to measure.
 
+use crate::script::write_weights;
 use std::alloc::{AllocError, Global};
 
 /// Whole texts, each at some edge: what may stand first, how many fields, what a number is, which references are placed.
-pub(crate) const TEXTS: [&[u8]; 48] = [
+pub(crate) static TEXTS: [&[u8]; 50] = [
     b"weights\t0\t10\t10\t10\t100\nref\t1\t3\nread\t0\t1\nfetch\t0\nresume\t0\nwrite\t0\t1\nread\t1\t1\nfetch\t1\nflush\t0\t1\nfetch\t1\nresume\t1\n",
     b"",
     b"\n",
@@ -52,45 +53,49 @@ pub(crate) const TEXTS: [&[u8]; 48] = [
     b"weights\t0\t0\t0\t0\t0\nfetch\t00\n",
     b"weights\t0\t0\t0\t0\t0\nread\t01\t02\n",
     b"weights\t0\t0\t0\t0\t0\nfetch\t\xff\n",
+    b"weights\t1\t1\t1\t1\t1\nref\t1\t15\nref\t2\t16\nwrite\t0\t1\nfetch\t0\nresume\t0\nread\t0\t2\nread\t1\t1\nflush\t0\t2\nflush\t0\t1\ncommit\t0\t2\ncommit\t0\t1\n",
+    b"weights\t1\t1\t1\t1\t1\nref\t1\t4095\nref\t2\t4096\nref\t3\t7995\nref\t4\t7996\nwrite\t0\t2\nfetch\t0\nresume\t0\nread\t0\t1\nfetch\t0\nresume\t0\nread\t0\t3\nread\t1\t4\n",
 ];
+
+// A text that repeats a piece between its head and its end.
+fn filled(
+    heap: Global,
+    head: &[u8],
+    piece: &[u8],
+    count: usize,
+    end: &[u8],
+) -> Result<Vec<u8>, AllocError> {
+    let mut text = Vec::from_slice(heap, head)?;
+    for _ in 0..count {
+        text.extend_from_slice(piece)?;
+    }
+    text.extend_from_slice(end)?;
+    Ok(text)
+}
 
 /// A good scenario of just so many bytes, from 100 on.
 pub(crate) fn measured(heap: Global, bytes: usize) -> Result<Vec<u8>, AllocError> {
-    let mut text = Vec::new(heap);
-    text.extend_from_slice(b"weights\t1\t2\t3\t4\t5\nref\t9\t4\n")?;
-    let rest = bytes.saturating_sub(text.len());
-    // lines of eight bytes, and so many of nine as are left over
-    let longer = rest % 8;
-    for number in 0..rest / 8 {
-        if number < longer {
-            text.extend_from_slice(b"resume\t0\n")?;
-        } else if number % 2 == 0 {
-            text.extend_from_slice(b"fetch\t1\n")?;
-        } else {
-            text.extend_from_slice(b"fetch\t0\n")?;
-        }
-    }
-    Ok(text)
+    let head = b"weights\t1\t2\t3\t4\t5\nref\t9\t4\n";
+    let longer = b"resume\t0\nresume\t0\nresume\t0\nresume\t0\nresume\t0\nresume\t0\nresume\t0\n";
+    let rest = bytes.saturating_sub(head.len());
+    // steps of eight bytes, and so many of nine as are left over
+    let end = longer.get(..rest % 8 * 9).unwrap_or(b"");
+    let count = rest.saturating_sub(end.len()) / 8;
+    filled(heap, head, b"fetch\t1\n", count, end)
 }
 
-/// A scenario with a line of so many bytes before its line feed, all but one of them digits.
+/// A scenario with a line of so many bytes before its line feed, all but six of them digits.
 pub(crate) fn long_line(heap: Global, bytes: usize) -> Result<Vec<u8>, AllocError> {
-    let mut text = Vec::new(heap);
-    text.extend_from_slice(b"weights\t0\t0\t0\t0\t0\nfetch\t")?;
-    for _ in 6..bytes {
-        text.push(b'1')?;
-    }
-    text.push(b'\n')?;
-    Ok(text)
+    let head = b"weights\t0\t0\t0\t0\t0\nfetch\t";
+    filled(heap, head, b"1", bytes.saturating_sub(6), b"\n")
 }
 
 /// A scenario with one weight exchanged.
-pub(crate) fn weighed(heap: Global, place: usize, weight: u16) -> Result<Vec<u8>, AllocError> {
-    let mut text = String::from_str(heap, "weights")?;
-    for number in 0..5usize {
-        let value = if number == place { weight } else { 1_000 };
-        write!(text, "\t{value}")?;
-    }
-    text.push_str("\nref\t3\t3\nwrite\t0\t3\nfetch\t0\nresume\t0\nread\t0\t3\n")?;
+pub(crate) fn weighed(heap: Global, place: usize, weight: usize) -> Result<Vec<u8>, AllocError> {
+    let mut weights = [1_000; 5];
+    weights[place % 5] = weight;
+    let mut text = String::new(heap);
+    write_weights(&mut text, weights)?;
+    text.push_str("ref\t3\t3\nwrite\t0\t3\nfetch\t0\nresume\t0\nread\t0\t3\n")?;
     Ok(text.into_bytes())
 }

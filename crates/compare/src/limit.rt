@@ -1,20 +1,29 @@
-//! Studies of more steps than are accepted, and than a text can hold.
+//! A study of more steps than are accepted, and than a text can hold.
 
-use direct::direct::Direct;
-use memory::cell::{Cell, State};
-use memory::flat::Flat;
-use parts::refusal::BuildError;
-use protocol::answer::{Word, value_of};
+use crate::reference::plain::Machine;
+use crate::reference::steps::{Call as Again, Kind, Study};
+use crate::reference::{tell_quote, tell_turn};
+use memory::Memory;
+use memory::cell::Cell;
 use protocol::call::Call;
-use reference::machine::{Cell as Again, Level, Machine, Part};
-use reference::study::{Call as CallAgain, Kind, Study};
-use row::one_core::Core;
+use protocol::weights::Prices;
+use report::line::Line;
+use row::Row;
 use std::alloc::{AllocError, Global};
 use study::stages::Draft;
 
-// The accesses of one core of one line to two blocks in turn: each waits, fetches and resumes.
-const STEPS: [(Call, Kind, usize); 6] = [
-    (Call::Read(0, 0), Kind::Read, 0),
+const PRICES: Prices = Prices {
+    w1: 1_000,
+    w2: 1_000,
+    w3: 1_000,
+    w4: 1_000,
+    wm: 1_000,
+};
+
+// The writes of one core of one line to two blocks in turn: each waits, fetches and resumes. At the highest weights every step
+// costs 1,000 in the mean.
+static STEPS: [(Call, Kind, usize); 6] = [
+    (Call::Write(0, 0), Kind::Write, 0),
     (Call::Fetch(0), Kind::Fetch, 0),
     (Call::Resume(0), Kind::Resume, 0),
     (Call::Write(0, 1), Kind::Write, 1),
@@ -22,48 +31,51 @@ const STEPS: [(Call, Kind, usize); 6] = [
     (Call::Resume(0), Kind::Resume, 0),
 ];
 
-/// How many of 1,000,020 turns agree, the first million accepted and the next twenty refused.
-pub(crate) fn agreeing(heap: Global) -> Result<usize, AllocError> {
-    let mut table = [Cell {
-        state: State::Stale,
-        stamp: 5,
-    }; 2];
-    let tier = Direct::new(heap, 1).or_else(BuildError::into_tier)?;
-    let Ok(mut run) = Draft::new(Core::new(tier), Flat::over(&mut table)).open() else {
-        return Ok(0);
+const TURNS: u32 = 1_000_020;
+
+// The turns from this on are told.
+const TOLD: u32 = 999_980;
+
+/// Plays a million steps and twenty more, which are refused, by the simulator, and tells of the last and of the quote.
+pub(crate) fn play<R: Row + Drop, M: Memory + Drop>(
+    row: R,
+    memory: M,
+    out: &mut Vec<u8>,
+) -> Result<(), AllocError> {
+    let mut draft = Draft::new(row, memory);
+    let _ = draft.weigh(PRICES);
+    let Ok(mut run) = draft.open() else {
+        return Ok(());
     };
-    let mut study = Study::new(
-        heap,
-        Machine {
-            levels: &[(0, Level::Direct(1))],
-            parts: &[Part::Flat(2)],
-            cells: vec![in heap; Again {
-                valid: false,
-                stamp: 5
-            }; 2]?,
-        },
-    )?;
-    let mut count = 0usize;
-    if study.open([0; 5]) > 0 {
-        return Ok(count);
-    }
-    for number in 0..1_000_020usize {
-        let (call, kind, block) = STEPS[number % 6];
+    for number in 0..TURNS {
+        let (call, _, _) = STEPS[number as usize % 6];
         let played = run.take_turn(call);
-        let turn = study.step(CallAgain {
+        if number >= TOLD {
+            out.extend_from_slice(Line::of_step(number, &played).bytes())?;
+        }
+    }
+    out.extend_from_slice(Line::of_quote(&run.settle().quote).bytes())
+}
+
+/// The same by the reference; gives back the cells.
+pub(crate) fn replay(
+    heap: Global,
+    machine: Machine,
+    out: &mut String,
+) -> Result<Vec<Cell>, AllocError> {
+    let mut study = Study::new(heap, machine)?;
+    study.open([1_000; 5]);
+    for number in 0..TURNS {
+        let (_, kind, block) = STEPS[number as usize % 6];
+        let turn = study.step(Again {
             kind,
             core: 0,
             block,
         });
-        let word = Word::from(played.answer).bytes();
-        let value = u64::from(value_of(played.answer));
-        let is_same = word == turn.word.as_bytes()
-            && value == turn.value
-            && played.total == turn.total
-            && turn.refused == (number >= 1_000_000);
-        if is_same {
-            count = count.wrapping_add(1);
+        if number >= TOLD {
+            tell_turn(out, "", number as usize, turn)?;
         }
     }
-    Ok(count)
+    tell_quote(out, "", &study)?;
+    Ok(study.into_cells())
 }

@@ -1,10 +1,16 @@
-//! The kinds of machines that are tried, each with its plain description. Some sizes are drawn.
+//! The kinds of machines that are tried, each as plain data for the reference and as the simulator's own parts. Some sizes are
+//! drawn.
 
+ghost use Rattle.std.specs.Prelude.{◌≤◌};
+
+use crate::reference::plain::Level::{self, Direct as D, Queue as Q, Recent as R, Sets as S};
+use crate::reference::plain::Part::{self, Flat as Table, Interleaved as Turns, Window as Stretch};
 use crate::trial::{Trial, run};
 use assoc::set_associative::SetAssociative;
 use direct::direct::Direct;
 use interleaved::Interleaved;
 use machine::two_cores;
+use memory::Memory;
 use memory::cell::Cell;
 use memory::flat::Flat;
 use pair::Pair;
@@ -12,8 +18,6 @@ use parts::refusal::BuildError;
 use ranked::policy::Lru;
 use ranked::queue::Queue;
 use ranked::ranked::Ranked;
-use reference::machine::Level::{self, Direct as D, Queue as Q, Recent as R, Sets as S};
-use reference::machine::Part::{self, Flat as Table, Interleaved as Turns, Window as Stretch};
 use row::Row;
 use row::one_core::Core;
 use std::alloc::{AllocError, Global};
@@ -33,7 +37,7 @@ pub(crate) enum Kind {
 }
 
 /// Each kind, what it is called, and how many cores it has.
-pub(crate) const KINDS: [(Kind, &str, usize); 7] = [
+pub(crate) static KINDS: [(Kind, &str, usize); 7] = [
     (Kind::Mcsim, "mcsim's machine", 2),
     (Kind::OneLine, "one core of one line over a window", 1),
     (Kind::Mixed, "three mixed cores over a window of two", 3),
@@ -44,10 +48,80 @@ pub(crate) const KINDS: [(Kind, &str, usize); 7] = [
 ];
 
 /// The levels of the two cores of mcsim's machine.
-pub(crate) const MCSIM: [(usize, Level); 4] = [(0, D(2)), (0, S(2, 2)), (1, D(2)), (1, S(2, 2))];
+pub(crate) static MCSIM: [(usize, Level); 4] = [(0, D(2)), (0, S(2, 2)), (1, D(2)), (1, S(2, 2))];
 
-// What is made may lack memory. To pass that on in generic functions is proved once for all machines.
 type Made<T> = Result<T, AllocError>;
+
+/// The levels of a kind.
+pub(crate) fn levels_of(
+    heap: Global,
+    kind: Kind,
+    (size, other): (usize, usize),
+) -> Made<Vec<(usize, Level)>> {
+    let lines = S(2, size);
+    let row = [
+        (0, lines),
+        (1, lines),
+        (2, lines),
+        (3, lines),
+        (4, lines),
+        (5, lines),
+        (6, lines),
+        (7, lines),
+        (8, D(size)),
+    ];
+    let deep = [
+        (0, D(1)),
+        (0, Q(size)),
+        (0, S(1, 2)),
+        (0, D(2)),
+        (0, Q(1)),
+        (1, D(size)),
+        (1, Q(2)),
+        (1, S(2, other)),
+        (1, D(1)),
+        (1, Q(1)),
+    ];
+    match kind {
+        Kind::Mcsim | Kind::Nothing => Vec::from_slice(heap, &MCSIM),
+        Kind::OneLine => Vec::from_slice(heap, &[(0, D(1))]),
+        Kind::Mixed => Vec::from_slice(heap, &[(0, D(size)), (1, R(other)), (2, Q(size))]),
+        Kind::Deep => Vec::from_slice(heap, &deep),
+        Kind::Eight => Vec::from_slice(heap, row.get(..8).unwrap_or(&row)),
+        Kind::Nine => Vec::from_slice(heap, &row),
+    }
+}
+
+// Of so many cells the first part of two tables takes these.
+fn split(kind: Kind, cells: usize) -> usize
+    ensures { result ≤ cells }
+{
+    match kind {
+        Kind::Mixed => (cells / 2).saturating_sub(1),
+        _ => cells.min(9),
+    }
+}
+
+/// The parts of the memory of a kind over so many cells.
+pub(crate) fn parts_of(heap: Global, kind: Kind, cells: usize) -> Made<Vec<Part>> {
+    let first = split(kind, cells);
+    let rest = cells.saturating_sub(first);
+    match kind {
+        Kind::OneLine => Vec::from_slice(heap, &[Table(cells), Stretch(3, 9, 0)]),
+        Kind::Nothing => Vec::from_slice(heap, &[Table(cells), Stretch(99, 9, 0)]),
+        Kind::Mcsim | Kind::Deep => Vec::from_slice(heap, &[Table(cells)]),
+        Kind::Mixed => {
+            let most = 4_294_967_295;
+            let parts = [Table(first), Table(rest), Turns(0, 1), Stretch(2, most, 2)];
+            Vec::from_slice(heap, &parts)
+        }
+        Kind::Eight | Kind::Nine => {
+            let even = [Table(first), Stretch(1, 6, 0)];
+            let [a, b] = even;
+            Vec::from_slice(heap, &[a, b, Table(rest), Stretch(0, 5, 2), Turns(1, 3)])
+        }
+    }
+}
 
 fn direct(heap: Global, lines: usize) -> Made<Direct> {
     Direct::new(heap, lines).or_else(BuildError::into_tier)
@@ -65,32 +139,30 @@ fn sets(heap: Global, count: usize, ways: usize) -> Made<SetAssociative> {
     SetAssociative::new(heap, count, ways).or_else(BuildError::into_tier)
 }
 
-fn on<U: Tier + Drop, L: Tier + Drop>(upper: Made<U>, lower: Made<L>) -> Made<Pile<U, L>> {
-    Ok(Pile::new(upper?, lower?))
+// A row over a stretch of one table.
+fn stretched<R: Row + Drop>(
+    heap: Global,
+    trial: &mut Trial,
+    row: Made<R>,
+    cells: &mut [Cell],
+    start: u32,
+    length: u32,
+) -> Made<()> {
+    let memory = Window::new(Flat::over(cells), start, length);
+    run(heap, trial, row?, memory)
 }
 
-fn core<T: Tier + Drop>(tier: Made<T>) -> Made<Core<T>> {
-    Ok(Core::new(tier?))
-}
-
-fn beside<R: Row + Drop, S: Row + Drop>(first: Made<R>, second: Made<S>) -> Made<Pair<R, S>> {
-    Ok(Pair::new(first?, second?))
-}
-
-type Two = Pair<Core<Queue>, Core<Queue>>;
-
-type Four = Pair<Two, Two>;
-
-fn two(heap: Global, lines: usize) -> Made<Two> {
-    beside(core(queue(heap, lines)), core(queue(heap, lines)))
-}
-
-fn four(heap: Global, lines: usize) -> Made<Four> {
-    beside(two(heap, lines), two(heap, lines))
-}
-
-fn eight(heap: Global, lines: usize) -> Made<Pair<Four, Four>> {
-    beside(four(heap, lines), four(heap, lines))
+// Three cores.
+fn three<A: Tier + Drop, B: Tier + Drop, C: Tier + Drop, M: Memory + Drop>(
+    heap: Global,
+    trial: &mut Trial,
+    a: Made<A>,
+    b: Made<B>,
+    c: Made<C>,
+    memory: M,
+) -> Made<()> {
+    let row = Pair::new(Core::new(a?), Pair::new(Core::new(b?), Core::new(c?)));
+    run(heap, trial, row, memory)
 }
 
 fn mixed(
@@ -98,139 +170,114 @@ fn mixed(
     trial: &mut Trial,
     cells: &mut [Cell],
     (size, other): (usize, usize),
-) -> Result<(), AllocError> {
-    let rest = beside(core(recent(heap, other)), core(queue(heap, size)));
-    let row = beside(core(direct(heap, size)), rest);
-    let (even, odd) = cells.split_at_mut(7.min(cells.len()));
-    let parts = [
-        Table(even.len()),
-        Table(odd.len()),
-        Turns(0, 1),
-        Stretch(2, 4_294_967_295, 2),
-    ];
+) -> Made<()> {
+    let first = split(Kind::Mixed, cells.len());
+    let (even, odd) = cells.split_at_mut(first);
     let whole = Interleaved::new(Flat::over(even), Flat::over(odd));
     let memory = Window::new(whole, 2, u32::MAX);
-    let levels = [(0, D(size)), (1, R(other)), (2, Q(size))];
-    run(heap, trial, row, memory, (&levels, &parts))
+    let a = direct(heap, size);
+    let b = recent(heap, other);
+    three(heap, trial, a, b, queue(heap, size), memory)
 }
 
-type Right = Pile<Direct, Pile<Queue, Pile<SetAssociative, Pile<Direct, Queue>>>>;
-
-type Left = Pile<Pile<Pile<Pile<SetAssociative, Direct>, Queue>, Direct>, Queue>;
-
-fn right(heap: Global, size: usize) -> Made<Right> {
-    let last = on(sets(heap, 1, 2), on(direct(heap, 2), queue(heap, 1)));
-    on(direct(heap, 1), on(queue(heap, size), last))
+fn one_line(heap: Global) -> Made<Core<Direct>> {
+    Ok(Core::new(direct(heap, 1)?))
 }
 
-fn left(heap: Global, size: usize) -> Made<Left> {
-    let first = on(on(sets(heap, 2, size), direct(heap, 1)), queue(heap, 1));
-    on(on(first, direct(heap, 1)), queue(heap, 2))
+fn two(heap: Global, lines: usize, more: usize) -> Made<Pile<Direct, Queue>> {
+    Ok(Pile::new(direct(heap, lines)?, queue(heap, more)?))
 }
 
-fn deep(
+// Three tiers, which make five levels if the first and the last have two.
+fn deep<T: Tier + Drop, U: Tier + Drop>(
+    first: Made<T>,
+    second: Made<U>,
+    third: Made<T>,
+) -> Made<Core<Pile<T, Pile<U, T>>>> {
+    let lower = Pile::new(second?, third?);
+    Ok(Core::new(Pile::new(first?, lower)))
+}
+
+// Two rows over one table.
+fn side_by_side<R: Row + Drop>(
     heap: Global,
     trial: &mut Trial,
+    first: Made<R>,
+    second: Made<R>,
     cells: &mut [Cell],
-    size: usize,
-) -> Result<(), AllocError> {
-    let row = beside(core(right(heap, size)), core(left(heap, size)));
-    let levels = [
-        (0, D(1)),
-        (0, Q(size)),
-        (0, S(1, 2)),
-        (0, D(2)),
-        (0, Q(1)),
-        (1, S(2, size)),
-        (1, D(1)),
-        (1, Q(1)),
-        (1, D(1)),
-        (1, Q(2)),
-    ];
-    let parts = [Table(cells.len())];
-    run(heap, trial, row, Flat::over(cells), (&levels, &parts))
+) -> Made<()> {
+    run(heap, trial, beside(first, second)?, Flat::over(cells))
 }
 
-fn windows(
+fn core(heap: Global, ways: usize) -> Made<Core<SetAssociative>> {
+    Ok(Core::new(sets(heap, 2, ways)?))
+}
+
+fn beside<R: Row + Drop>(first: Made<R>, second: Made<R>) -> Made<Pair<R, R>> {
+    Ok(Pair::new(first?, second?))
+}
+
+type Two = Pair<Core<SetAssociative>, Core<SetAssociative>>;
+
+fn four(heap: Global, ways: usize) -> Made<Pair<Two, Two>> {
+    let first = beside(core(heap, ways), core(heap, ways));
+    beside(first, beside(core(heap, ways), core(heap, ways)))
+}
+
+fn in_turn<'a>(cells: &'a mut [Cell]) -> Interleaved<Window<Flat<'a>>, Window<Flat<'a>>> {
+    let first = split(Kind::Eight, cells.len());
+    let (even, odd) = cells.split_at_mut(first);
+    let even = Window::new(Flat::over(even), 1, 6);
+    Interleaved::new(even, Window::new(Flat::over(odd), 0, 5))
+}
+
+// Two rows, over two windows in turn, and perhaps one core more.
+fn many<R: Row + Drop>(
     heap: Global,
     trial: &mut Trial,
+    first: Made<R>,
+    second: Made<R>,
     cells: &mut [Cell],
-    size: usize,
-) -> Result<(), AllocError> {
-    let (even, odd) = cells.split_at_mut(9.min(cells.len()));
-    let parts = [
-        Table(even.len()),
-        Stretch(1, 6, 0),
-        Table(odd.len()),
-        Stretch(0, 5, 2),
-        Turns(1, 3),
-    ];
-    let first = Window::new(Flat::over(even), 1, 6);
-    let memory = Interleaved::new(first, Window::new(Flat::over(odd), 0, 5));
-    let lines = Q(size);
-    let levels = [
-        (0, lines),
-        (1, lines),
-        (2, lines),
-        (3, lines),
-        (4, lines),
-        (5, lines),
-        (6, lines),
-        (7, lines),
-    ];
-    run(heap, trial, eight(heap, size), memory, (&levels, &parts))
+    ninth: Option<usize>,
+) -> Made<()> {
+    let row = beside(first, second)?;
+    match ninth {
+        None => run(heap, trial, row, in_turn(cells)),
+        Some(lines) => {
+            let core = Core::new(direct(heap, lines)?);
+            run(heap, trial, Pair::new(row, core), in_turn(cells))
+        }
+    }
 }
 
-/// Tries a machine of a kind.
+/// Tries a machine of a kind on the simulator.
 pub(crate) fn try_on(
     heap: Global,
     kind: Kind,
     trial: &mut Trial,
     cells: &mut [Cell],
     (size, other): (usize, usize),
-) -> Result<(), AllocError> {
-    let table = Table(cells.len());
+) -> Made<()> {
     match kind {
-        Kind::Mcsim => run(
-            heap,
-            trial,
-            two_cores(heap),
-            Flat::over(cells),
-            (&MCSIM, &[table]),
-        ),
-        Kind::OneLine => {
-            let memory = Window::new(Flat::over(cells), 3, 9);
-            let parts = [table, Stretch(3, 9, 0)];
-            run(
-                heap,
-                trial,
-                core(direct(heap, 1)),
-                memory,
-                (&[(0, D(1))], &parts),
-            )
-        }
+        Kind::Mcsim => stretched(heap, trial, two_cores(heap), cells, 0, u32::MAX),
+        Kind::Nothing => stretched(heap, trial, two_cores(heap), cells, 99, u32::MAX),
+        Kind::OneLine => stretched(heap, trial, one_line(heap), cells, 3, 9),
         Kind::Mixed => mixed(heap, trial, cells, (size, other)),
-        Kind::Deep => deep(heap, trial, cells, size),
-        Kind::Eight => windows(heap, trial, cells, size),
-        Kind::Nine => {
-            // a study of nine cores is refused, so the levels of the first eight are not told
-            let row = beside(eight(heap, 1), core(direct(heap, size)));
-            run(
-                heap,
-                trial,
-                row,
-                Flat::over(cells),
-                (&[(8, D(size))], &[table]),
-            )
+        Kind::Deep => {
+            let first = deep(two(heap, 1, size), sets(heap, 1, 2), two(heap, 2, 1));
+            let second = deep(two(heap, size, 2), sets(heap, 2, other), two(heap, 1, 1));
+            side_by_side(heap, trial, first, second, cells)
         }
-        Kind::Nothing => {
-            let memory = Window::new(Flat::over(cells), 99, u32::MAX);
-            run(
+        Kind::Eight => many(heap, trial, four(heap, size), four(heap, size), cells, None),
+        Kind::Nine => {
+            let ninth = Some(size);
+            many(
                 heap,
                 trial,
-                two_cores(heap),
-                memory,
-                (&MCSIM, &[table, Stretch(99, 9, 0)]),
+                four(heap, size),
+                four(heap, size),
+                cells,
+                ninth,
             )
         }
     }

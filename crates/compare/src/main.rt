@@ -1,5 +1,6 @@
-//! compare: plays thousands of scenarios and paired studies by the simulator and by the reference, and says how many of each
-//! sort agree. What is drawn is the same in every run. If one differs it is shown in full, and the exit status is 1.
+//! compare: plays thousands of scenarios and paired studies by the simulator and by a reference that was written from docs/
+//! alone, and says how many of each sort agree. What is drawn is the same in every run. If one differs it is shown in full,
+//! and the exit status is 1.
 #![tactic(auto)]
 
 mod damage;
@@ -8,6 +9,7 @@ mod families;
 mod limit;
 mod machines;
 mod random;
+mod reference;
 mod score;
 mod script;
 mod trial;

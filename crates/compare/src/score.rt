@@ -2,9 +2,8 @@
 
 use crate::machines::{Kind, try_on};
 use crate::random::Random;
-use crate::trial::{Asked, Trial};
+use crate::trial::{Asked, Trial, retell};
 use memory::cell::{Cell, State};
-use reference::machine::Cell as Again;
 use std::alloc::{AllocError, Global};
 use std::io;
 
@@ -36,88 +35,75 @@ impl Setting {
     }
 }
 
-// Where the cells differ first.
-fn difference(cells: &[Cell], again: &[Again]) -> Option<usize> {
-    for (place, (cell, other)) in cells.iter().zip(again).enumerate() {
-        let is_valid = cell.state == State::Valid;
-        if is_valid != other.valid || u64::from(cell.stamp) != other.stamp {
-            return Some(place);
-        }
-    }
-    None
-}
-
 // What a trial left that differs, if anything does.
 fn verdict(trial: &Trial, cells: &[Cell]) -> &'static str {
     if trial.told.as_slice() != trial.again.as_bytes() {
         "reports"
     } else if trial.layout != trial.layout_again {
         "layout tables"
-    } else if difference(cells, trial.cells_again.as_slice()).is_some() {
+    } else if cells != trial.cells_again.as_slice() {
         "cells"
+    } else if trial.second != trial.second_again {
+        "cells of the second side"
     } else {
         ""
     }
 }
 
-// Does what is asked both ways, and tells what differs.
-fn tried<'a>(
-    heap: Global,
+// Fills the tables of a trial and the cells that its machine is lent, the same for both.
+fn fill(
+    trial: &mut Trial,
+    cells: &mut Vec<Cell>,
+    random: &mut Random,
     setting: Setting,
-    asked: Asked<'a>,
-) -> Result<(Trial<'a>, &'static str), AllocError> {
-    let mut random = Random::new(setting.seed);
-    let mut cells = Vec::new(heap);
-    let mut trial = Trial {
-        asked,
-        told: Vec::new(heap),
-        again: String::new(heap),
-        layout: Vec::new(heap),
-        layout_again: Vec::new(heap),
-        cells_again: Vec::new(heap),
-    };
-    for _ in 0..setting.cells {
+) -> Result<(), AllocError> {
+    for place in 0..setting.cells {
         let stamp = random.word(0, 4_294_967_295);
         let valid = stamp % 2 == 0;
         let state = if valid { State::Valid } else { State::Stale };
-        cells.push(Cell { state, stamp })?;
-        trial.cells_again.push(Again {
-            valid,
-            stamp: u64::from(stamp),
-        })?;
+        let cell = Cell { state, stamp };
+        cells.push(cell)?;
+        trial.cells_again.push(cell)?;
+        if place < 16 {
+            trial.second.push(cell)?;
+            trial.second_again.push(cell)?;
+        }
     }
     for _ in 0..setting.entries {
         let entry = random.word(0, 70_000);
         trial.layout.push(entry)?;
         trial.layout_again.push(entry)?;
     }
+    Ok(())
+}
+
+// Does what is asked both ways, and tells what differs.
+fn both(heap: Global, trial: &mut Trial, setting: Setting) -> Result<&'static str, AllocError> {
+    let mut random = Random::new(setting.seed);
+    let mut cells = Vec::new(heap);
+    fill(trial, &mut cells, &mut random, setting)?;
     let most = if random.once_in(10) { 18 } else { 4 };
     let sizes = (random.among(1, most), random.among(1, most));
-    try_on(heap, setting.kind, &mut trial, cells.as_mut_slice(), sizes)?;
-    let differing = verdict(&trial, cells.as_slice());
-    Ok((trial, differing))
+    retell(heap, trial, setting.kind, sizes)?;
+    try_on(heap, setting.kind, trial, cells.as_mut_slice(), sizes)?;
+    Ok(verdict(trial, cells.as_slice()))
 }
 
-fn show(rt: &HostRuntime, title: &str, text: &[u8]) -> io::Result<()> {
-    println!(rt;
-        "-- {title}, {} bytes:\n{}",
-        text.len(),
-        String::from_utf8_lossy(rt.alloc(), text)?
-    )
-}
-
-// Shows a case in full.
-fn show_all(rt: &HostRuntime, trial: &Trial) -> io::Result<()> {
-    match trial.asked {
-        Asked::Scenario(text) => show(rt, "scenario", text)?,
-        Asked::Pair(a, b, schedule) => {
-            show(rt, "placement a", a)?;
-            show(rt, "placement b", b)?;
-            show(rt, "schedule", schedule)?;
-        }
+// Shows a trial in full.
+fn show(rt: &HostRuntime, trial: &Trial) -> io::Result<()> {
+    let [first, second, third] = &trial.asked.texts;
+    let parts = [
+        ("the scenario or schedule", first.as_slice()),
+        ("placement a", second.as_slice()),
+        ("placement b", third.as_slice()),
+        ("the simulator", trial.told.as_slice()),
+        ("the reference", trial.again.as_bytes()),
+    ];
+    for (title, text) in parts {
+        let shown = String::from_utf8_lossy(rt.alloc(), text)?;
+        println!(rt; "-- {title}, {} bytes:\n{shown}", text.len())?;
     }
-    show(rt, "the simulator", trial.told.as_slice())?;
-    show(rt, "the reference", trial.again.as_bytes())
+    Ok(())
 }
 
 impl Score {
@@ -129,16 +115,6 @@ impl Score {
         }
     }
 
-    /// Counts a comparison of any sort.
-    pub(crate) fn note(&mut self, agrees: bool) {
-        self.cases = self.cases.wrapping_add(1);
-        if agrees {
-            self.agreed = self.agreed.wrapping_add(1);
-        } else {
-            self.differing = self.differing.wrapping_add(1);
-        }
-    }
-
     /// Tries and counts a case; shows it if it is the first of all that differs.
     pub(crate) fn judge(
         &mut self,
@@ -146,15 +122,20 @@ impl Score {
         setting: Setting,
         asked: Asked,
     ) -> io::Result<()> {
-        let (trial, differing) = tried(rt.alloc(), setting, asked)?;
-        if !differing.is_empty() && self.differing == 0 {
-            let number = self.cases.wrapping_add(1);
-            let seed = setting.seed;
-            println!(rt; "== case {number} of the next family differs, seed {seed}: {differing}")?;
-            show_all(rt, &trial)?;
+        let mut trial = Trial::new(rt.alloc(), asked);
+        let differing = both(rt.alloc(), &mut trial, setting)?;
+        self.cases = self.cases.wrapping_add(1);
+        if differing.is_empty() {
+            self.agreed = self.agreed.wrapping_add(1);
+            return Ok(());
         }
-        self.note(differing.is_empty());
-        Ok(())
+        self.differing = self.differing.wrapping_add(1);
+        if self.differing > 1 {
+            return Ok(());
+        }
+        let number = self.cases;
+        println!(rt; "== case {number} of the next family differs: {differing}")?;
+        show(rt, &trial)
     }
 
     /// Tells how a family came out, and begins the next.

@@ -1,31 +1,34 @@
 //! Scenarios that are drawn: placements, and steps that follow one another so that runs go deep.
 
 use crate::random::Random;
+use crate::trial::{Asked, Sort};
 use std::alloc::{AllocError, Global};
 
-const STEPS: [&str; 6] = ["read", "write", "commit", "flush", "fetch", "resume"];
+// The words of the steps, those with a reference first.
+static STEPS: [&str; 6] = ["read", "write", "commit", "flush", "fetch", "resume"];
 
 // The number of a reference, by its place among those that a script has.
 fn reference(place: usize) -> usize {
     place.wrapping_mul(29).wrapping_add(3) % 256
 }
 
-pub(crate) fn write_weights(text: &mut String, random: &mut Random) -> Result<(), AllocError> {
-    let most = if random.once_in(4) { 10 } else { 1_000 };
-    text.push_str("weights")?;
-    for _ in 0..5 {
-        let weight = random.among(0, most);
-        write!(text, "\t{weight}")?;
-    }
-    text.push_str("\n")
+/// A line of weights.
+pub(crate) fn write_weights(text: &mut String, weights: [usize; 5]) -> Result<(), AllocError> {
+    let [w1, w2, w3, w4, wm] = weights;
+    write!(text, "weights\t{w1}\t{w2}\t{w3}\t{w4}\t{wm}\n")
 }
 
-/// Places so many references, each in a block of the memory or now and then in one beyond it.
-pub(crate) fn write_places(
-    text: &mut String,
-    random: &mut Random,
-    count: usize,
-) -> Result<(), AllocError> {
+fn drawn_weights(random: &mut Random) -> [usize; 5] {
+    let most = if random.once_in(4) { 10 } else { 1_000 };
+    let mut weights = [0; 5];
+    for weight in weights.iter_mut() {
+        *weight = random.among(0, most);
+    }
+    weights
+}
+
+// Places so many references, each in a block of the memory or now and then in one beyond it.
+fn write_places(text: &mut String, random: &mut Random, count: usize) -> Result<(), AllocError> {
     let blocks = random.among(2, 20);
     for place in 0..count {
         let number = reference(place);
@@ -36,66 +39,97 @@ pub(crate) fn write_places(
     Ok(())
 }
 
-/// Steps of so many cores on so many references. A core asks for a block; then its last writer flushes it, and the core fetches
-/// and resumes. Among these come steps of any sort.
-pub(crate) fn write_steps(
+// What the steps so far were about: for each core how far it is with its access and to which reference, and for each reference
+// the core that last asked to write it.
+#[derive(Drop)]
+struct Plot {
+    stages: [(usize, usize); 9],
+    writers: [usize; 12],
+}
+
+impl Plot {
+    // The next step: its word, its core and its reference. A core asks for a block; then its last writer flushes it, and the core
+    // fetches and resumes. Among these come steps of any sort.
+    fn next(
+        &mut self,
+        random: &mut Random,
+        cores: usize,
+        references: usize,
+    ) -> (usize, usize, usize) {
+        let core = random.below(cores);
+        let place = random.low(references);
+        if random.once_in(9) {
+            let any = random.below(cores.saturating_add(1));
+            return (random.below(6), any, place);
+        }
+        let stage = &mut self.stages[core % 9];
+        let (passed, wanted) = *stage;
+        let place = if passed > 0 { wanted } else { place };
+        *stage = (passed.wrapping_add(1) % 4, place);
+        let writer = &mut self.writers[place % 12];
+        match passed {
+            0 => {
+                let word = random.below(2);
+                if word == 1 {
+                    *writer = core;
+                }
+                (word, core, place)
+            }
+            1 => (3, *writer, place),
+            2 => (4, core, place),
+            _ => (5, core, place),
+        }
+    }
+}
+
+// Steps of so many cores on so many references.
+fn write_steps(
     text: &mut String,
     random: &mut Random,
     cores: usize,
     references: usize,
     count: usize,
 ) -> Result<(), AllocError> {
-    let mut stages = [(0usize, 0usize); 9];
-    let mut writers = [0usize; 12];
+    let mut plot = Plot {
+        stages: [(0, 0); 9],
+        writers: [0; 12],
+    };
     for _ in 0..count {
-        let mut core = random.below(cores);
-        let mut place = random.low(references);
-        let mut word = random.below(6);
-        if random.once_in(9) {
-            core = random.below(cores.saturating_add(1));
-        } else if let Some(stage) = stages.get_mut(core) {
-            let (passed, wanted) = *stage;
-            if passed > 0 {
-                place = wanted;
-            }
-            *stage = ((passed.wrapping_add(1)) % 4, place);
-            word = match passed {
-                0 => random.below(2),
-                1 => 3,
-                2 => 4,
-                _ => 5,
-            };
-            if let Some(writer) = writers.get_mut(place) {
-                if passed == 1 {
-                    core = *writer;
-                } else if word == 1 {
-                    *writer = core;
-                }
-            }
-        }
+        let (word, core, place) = plot.next(random, cores, references);
         let name = STEPS[word % 6];
-        write!(text, "{name}\t{core}")?;
         if word < 4 {
             let number = reference(place);
-            write!(text, "\t{number}")?;
+            write!(text, "{name}\t{core}\t{number}\n")?;
+        } else {
+            write!(text, "{name}\t{core}\n")?;
         }
-        text.push_str("\n")?;
     }
     Ok(())
 }
 
-/// A whole scenario.
-pub(crate) fn scenario(
+/// A whole scenario with at most so many steps, or two placements under a schedule.
+pub(crate) fn drawn(
     heap: Global,
     random: &mut Random,
     cores: usize,
     steps: usize,
-) -> Result<String, AllocError> {
+    sort: Sort,
+) -> Result<Asked, AllocError> {
+    let mut first = String::new(heap);
+    let mut second = String::new(heap);
     let mut text = String::new(heap);
     let references = random.among(1, 12);
     let count = random.among(0, steps);
-    write_weights(&mut text, random)?;
-    write_places(&mut text, random, references)?;
+    write_weights(&mut text, drawn_weights(random))?;
+    if let Sort::Pair = sort {
+        write_places(&mut first, random, references)?;
+        write_places(&mut second, random, references)?;
+    } else {
+        write_places(&mut text, random, references)?;
+    }
     write_steps(&mut text, random, cores, references, count)?;
-    Ok(text)
+    Ok(Asked {
+        texts: [text.into_bytes(), first.into_bytes(), second.into_bytes()],
+        sort,
+    })
 }

@@ -1,120 +1,160 @@
 //! One trial: the simulator and the reference are asked the same on the same machine, and all that they tell and leave is kept.
 
-use crate::machines::MCSIM;
+use crate::limit::{play, replay};
+use crate::machines::{Kind, MCSIM, levels_of, parts_of};
+use crate::reference::plain::{Machine, Part};
+use crate::reference::{SCENARIO, tell, tell_pair};
 use machine::two_cores;
 use memory::Memory;
-use memory::cell::{Cell, State};
+use memory::cell::Cell;
 use memory::flat::Flat;
 use paired::comparison::{Placement, compare};
-use reference::machine::{Cell as Again, Level, Machine, Part};
 use row::Row;
 use simulator::simulate::simulate;
 use std::alloc::{AllocError, Global};
 
-/// What is asked: a scenario, or two placements under a schedule.
+/// What is asked of a machine.
 #[derive(Clone, Copy)]
-pub(crate) enum Asked<'a> {
-    Scenario(&'a [u8]),
-    Pair(&'a [u8], &'a [u8], &'a [u8]),
+pub(crate) enum Sort {
+    /// The first text, a scenario.
+    Scenario,
+    /// The first text, a schedule, under the placements after it.
+    Pair,
+    /// More steps than are accepted.
+    Million,
 }
 
-/// Reports, layout tables and cells of both. The first machine of a pair is the one that is tried, the second is mcsim's.
 #[derive(Drop)]
-pub(crate) struct Trial<'a> {
-    pub(crate) asked: Asked<'a>,
+pub(crate) struct Asked {
+    pub(crate) texts: [Vec<u8>; 3],
+    pub(crate) sort: Sort,
+}
+
+/// Reports, layout tables and cells of both. The first machine of a pair is the one that is tried, the second is mcsim's, over
+/// the second cells.
+#[derive(Drop)]
+pub(crate) struct Trial {
+    pub(crate) asked: Asked,
     pub(crate) told: Vec<u8>,
     pub(crate) again: String,
     pub(crate) layout: Vec<u32>,
     pub(crate) layout_again: Vec<u32>,
-    pub(crate) cells_again: Vec<Again>,
+    pub(crate) cells_again: Vec<Cell>,
+    pub(crate) second: Vec<Cell>,
+    pub(crate) second_again: Vec<Cell>,
 }
 
-const CELL: Cell = Cell {
-    state: State::Stale,
-    stamp: 0,
-};
-
-// The last line of a paired study, from the figures of its sides.
-fn difference(out: &mut String, a: Option<u64>, b: Option<u64>) -> Result<(), AllocError> {
-    let (Some(a), Some(b)) = (a, b) else {
-        return out.push_str("difference\t-\t-\n");
-    };
-    let apart = a.abs_diff(b);
-    let cheaper = if a < b {
-        "a"
-    } else if b < a {
-        "b"
-    } else {
-        "equal"
-    };
-    write!(out, "difference\t{apart}\t{cheaper}\n")
+impl Trial {
+    /// A trial of nothing yet, with empty tables.
+    pub(crate) fn new(heap: Global, asked: Asked) -> Trial {
+        Trial {
+            asked,
+            told: Vec::new(heap),
+            again: String::new(heap),
+            layout: Vec::new(heap),
+            layout_again: Vec::new(heap),
+            cells_again: Vec::new(heap),
+            second: Vec::new(heap),
+            second_again: Vec::new(heap),
+        }
+    }
 }
 
-// The second side is played on mcsim's machine.
-fn pair_again(
-    heap: Global,
-    out: &mut String,
-    machine: Machine,
-    (a, b, schedule): (&[u8], &[u8], &[u8]),
-) -> Result<Vec<Again>, AllocError> {
-    let other = Machine {
-        levels: &MCSIM,
-        parts: &[Part::Flat(16)],
-        cells: vec![in heap; Again {
-            valid: false,
-            stamp: 0
-        }; 16]?,
-    };
-    let mut layout = [0; 256];
-    let first = reference::side(heap, out, machine, "a\t", a, schedule, &mut layout)?;
-    let second = reference::side(heap, out, other, "b\t", b, schedule, &mut layout)?;
-    difference(out, first.figure, second.figure)?;
-    Ok(first.cells)
-}
-
-// The same by the simulator; tells whether all was written.
-fn pair<R: Row + Drop, M: Memory + Drop>(
-    heap: Global,
-    out: &mut Vec<u8>,
-    a: Placement<'_, R, M>,
-    text: &[u8],
-    schedule: &[u8],
-) -> Result<bool, AllocError> {
-    let row = two_cores(heap)?;
-    let mut table = [CELL; 16];
-    let memory = Flat::over(&mut table);
-    let b = Placement { text, row, memory };
-    Ok(compare(a, b, schedule, out).written.is_ok())
-}
-
-/// Tries a machine, which comes with its levels and the parts of its memory.
-pub(crate) fn run<'m, R: Row + Drop, M: Memory + Drop>(
+// What the reference tells of a scenario; gives back the cells.
+fn retell_scenario(
     heap: Global,
     trial: &mut Trial,
-    row: Result<R, AllocError>,
-    memory: M,
-    (levels, parts): (&'m [(usize, Level)], &'m [Part]),
+    machine: Machine,
+) -> Result<Vec<Cell>, AllocError> {
+    let [text, ..] = &trial.asked.texts;
+    let texts = [(SCENARIO, text.as_slice())];
+    let layout = trial.layout_again.as_mut_slice();
+    let told = tell(heap, &mut trial.again, "", machine, layout, &texts)?;
+    Ok(told.cells)
+}
+
+// What the reference tells and leaves of a pair.
+fn retell_pair(heap: Global, trial: &mut Trial, machine: Machine) -> Result<(), AllocError> {
+    let [text, a, b] = &trial.asked.texts;
+    let other = Machine {
+        levels: &MCSIM,
+        parts: &[Part::Flat(trial.second_again.len())],
+        cells: trial.second_again.clone()?,
+    };
+    let texts = [a.as_slice(), b.as_slice(), text.as_slice()];
+    let (first, second) = tell_pair(heap, &mut trial.again, machine, other, texts)?;
+    trial.cells_again = first;
+    trial.second_again = second;
+    Ok(())
+}
+
+/// What the reference tells and leaves.
+pub(crate) fn retell(
+    heap: Global,
+    trial: &mut Trial,
+    kind: Kind,
+    sizes: (usize, usize),
 ) -> Result<(), AllocError> {
-    let row = row?;
+    let levels = levels_of(heap, kind, sizes)?;
+    let parts = parts_of(heap, kind, trial.cells_again.len())?;
     let machine = Machine {
-        levels,
-        parts,
+        levels: levels.as_slice(),
+        parts: parts.as_slice(),
         cells: trial.cells_again.clone()?,
     };
-    let asked = trial.asked;
-    let out = &mut trial.told;
-    let again = &mut trial.again;
-    let is_written = match asked {
-        Asked::Scenario(text) => {
-            let layout = trial.layout_again.as_mut_slice();
-            trial.cells_again = reference::simulate(heap, again, machine, text, layout)?.cells;
-            let layout = trial.layout.as_mut_slice();
-            simulate(text, layout, row, memory, out).written.is_ok()
+    match trial.asked.sort {
+        Sort::Scenario => {
+            trial.cells_again = retell_scenario(heap, trial, machine)?;
         }
-        Asked::Pair(text, b, schedule) => {
-            trial.cells_again = pair_again(heap, again, machine, (text, b, schedule))?;
-            pair(heap, out, Placement { text, row, memory }, b, schedule)?
-        }
+        Sort::Pair => retell_pair(heap, trial, machine)?,
+        Sort::Million => trial.cells_again = replay(heap, machine, &mut trial.again)?,
+    }
+    Ok(())
+}
+
+// A pair, whose second side is played on mcsim's machine; tells whether all was written.
+fn run_pair<R: Row + Drop, M: Memory + Drop>(
+    heap: Global,
+    trial: &mut Trial,
+    row: R,
+    memory: M,
+) -> Result<bool, AllocError> {
+    let [text, a, b] = &trial.asked.texts;
+    let other = two_cores(heap)?;
+    let a = Placement {
+        text: a.as_slice(),
+        row,
+        memory,
+    };
+    let b = Placement {
+        text: b.as_slice(),
+        row: other,
+        memory: Flat::over(trial.second.as_mut_slice()),
+    };
+    let comparison = compare(a, b, text.as_slice(), &mut trial.told);
+    Ok(comparison.written.is_ok())
+}
+
+// A scenario; tells whether all was written.
+fn run_scenario<R: Row + Drop, M: Memory + Drop>(trial: &mut Trial, row: R, memory: M) -> bool {
+    let [text, ..] = &trial.asked.texts;
+    let layout = trial.layout.as_mut_slice();
+    simulate(text.as_slice(), layout, row, memory, &mut trial.told)
+        .written
+        .is_ok()
+}
+
+/// What the simulator tells and leaves.
+pub(crate) fn run<R: Row + Drop, M: Memory + Drop>(
+    heap: Global,
+    trial: &mut Trial,
+    row: R,
+    memory: M,
+) -> Result<(), AllocError> {
+    let is_written = match trial.asked.sort {
+        Sort::Scenario => run_scenario(trial, row, memory),
+        Sort::Pair => run_pair(heap, trial, row, memory)?,
+        Sort::Million => return play(row, memory, &mut trial.told),
     };
     if is_written { Ok(()) } else { Err(AllocError) }
 }
