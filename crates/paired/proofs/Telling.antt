@@ -38,9 +38,9 @@ module _ (ls ls' : List (List Field)) (fs : List Field) (line : List ℕ) (of : 
       → OnOk w'' (IsOk w × IsOk w' × Appends c d line) → OnOk w'' (Appends a d (text_of (ls ++ (ls' ++ fs ∷ []))))
   both_told w w' w'' a b c d g h l =
       after_both w w' w'' g h l (λ x y z.
-          subst (Appends a d) (sym (text_of-append ls (ls' ++ fs ∷ []))) (Appends-trans a b d _ _ x (line_more b c d ls' fs y (subst (Appends c d) of z))))
+      subst (Appends a d) (sym (text_of-append ls (ls' ++ fs ∷ []))) (Appends-trans a b d _ _ x (line_more b c d ls' fs y (subst (Appends c d) of z))))
 
   pub both_read : ReadsAs (text_of ls) ls → ReadsAs (text_of ls') ls' → ReadsAs line (fs ∷ []) → ReadsAs (text_of (ls ++ (ls' ++ fs ∷ []))) (ls ++ (ls' ++ fs ∷ []))
   both_read g h l =
       subst (λ t. ReadsAs t (ls ++ (ls' ++ fs ∷ []))) (sym (text_of-append ls (ls' ++ fs ∷ [])))
-          (reads_both (text_of ls) (text_of (ls' ++ fs ∷ [])) ls (ls' ++ fs ∷ []) g (reads_more ls' fs h (subst (λ t. ReadsAs t (fs ∷ [])) of l)))
+      (reads_both (text_of ls) (text_of (ls' ++ fs ∷ [])) ls (ls' ++ fs ∷ []) g (reads_more ls' fs h (subst (λ t. ReadsAs t (fs ∷ [])) of l)))

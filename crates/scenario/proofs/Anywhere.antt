@@ -95,7 +95,7 @@ module _ (layout : List ℕ) (l : ℕ) (ps : List (List ℕ)) (k : Call) where
   worded_any s None e = grind (arith, e)
   worded_any s (Some w) e =
       elim (allows s w) as (λ b. Ok (Make k) ≡ and_then (as_text (cond b (or_miscounted l (counted w l ps)) (Err (Misplaced l)))) (change_of layout)
-          → Ok (Make k) ≡ and_then (as_text (worded Steps 1 (Some w) ps)) (change_of layout)) [ true ↦ λ h. counted_any w _ refl h | false ↦ λ h. grind (arith, h) ] e
+      → Ok (Make k) ≡ and_then (as_text (worded Steps 1 (Some w) ps)) (change_of layout)) [ true ↦ λ h. counted_any w _ refl h | false ↦ λ h. grind (arith, h) ] e
 
 record_any : (layout : List ℕ) (l : ℕ) (k : Call) (s : Section) (ps : List (List ℕ)) → Ok (Make k) ≡ and_then (as_text (record_of s l ps)) (change_of layout) → Ok (Make k) ≡ and_then (as_text (record_of Steps 1 ps)) (change_of layout)
 record_any layout l k s [] e = grind (arith, e)
@@ -105,4 +105,4 @@ pub anywhere : (layout : List ℕ) (s : Section) (l : ℕ) (bs : List ℕ) (k : 
 unfolding line_change
 anywhere layout s l bs k e =
     elim (nat_lt 80 (length bs)) as (λ b. Ok (Make k) ≡ and_then (as_text (cond b (Err (Unended l)) (record_of s l (parts 9 bs)))) (change_of layout)
-        → Ok (Make k) ≡ and_then (as_text (cond b (Err (Unended 1)) (record_of Steps 1 (parts 9 bs)))) (change_of layout)) [ true ↦ λ h. grind (arith, h) | false ↦ λ h. record_any layout l k s (parts 9 bs) h ] e
+    → Ok (Make k) ≡ and_then (as_text (cond b (Err (Unended 1)) (record_of Steps 1 (parts 9 bs)))) (change_of layout)) [ true ↦ λ h. grind (arith, h) | false ↦ λ h. record_any layout l k s (parts 9 bs) h ] e

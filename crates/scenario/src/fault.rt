@@ -110,16 +110,14 @@ pub struct Told {
     pub number: u8,
 }
 
-impl Told {
-    fn at(layer: Layer, line: u32, field: u32, number: u8) -> Told
-        ensures { result ≡ told layer line field number }
-    {
-        Told {
-            layer,
-            line,
-            field,
-            number,
-        }
+fn tell(layer: Layer, line: u32, field: u32, number: u8) -> Told
+    ensures { result ≡ told layer line field number }
+{
+    Told {
+        layer,
+        line,
+        field,
+        number,
     }
 }
 
@@ -131,15 +129,15 @@ impl From<Fault> for Told {
 
     fn from(fault: Fault) -> Told {
         match fault {
-            Fault::Text(TextFault::TooLong) => Told::at(Layer::Text, 0, 0, 15),
-            Fault::Text(TextFault::Unended { line }) => Told::at(Layer::Text, line, 0, 16),
-            Fault::Text(TextFault::Misplaced { line }) => Told::at(Layer::Text, line, 1, 17),
-            Fault::Text(TextFault::Miscounted { line }) => Told::at(Layer::Text, line, 0, 18),
-            Fault::Text(TextFault::NotANumber(at)) => Told::at(Layer::Text, at.line, at.field, 19),
-            Fault::Layout(LayoutFault::BadTable) => Told::at(Layer::Layout, 0, 0, 14),
-            Fault::Layout(LayoutFault::Taken(at)) => Told::at(Layer::Layout, at.line, at.field, 20),
-            Fault::Layout(LayoutFault::Unplaced(at)) => Told::at(Layer::Layout, at.line, at.field, 21),
-            Fault::Study(refusal) => Told::at(Layer::Study, 1, 0, u8::from(refusal)),
+            Fault::Text(TextFault::TooLong) => tell(Layer::Text, 0, 0, 15),
+            Fault::Text(TextFault::Unended { line }) => tell(Layer::Text, line, 0, 16),
+            Fault::Text(TextFault::Misplaced { line }) => tell(Layer::Text, line, 1, 17),
+            Fault::Text(TextFault::Miscounted { line }) => tell(Layer::Text, line, 0, 18),
+            Fault::Text(TextFault::NotANumber(at)) => tell(Layer::Text, at.line, at.field, 19),
+            Fault::Layout(LayoutFault::BadTable) => tell(Layer::Layout, 0, 0, 14),
+            Fault::Layout(LayoutFault::Taken(at)) => tell(Layer::Layout, at.line, at.field, 20),
+            Fault::Layout(LayoutFault::Unplaced(at)) => tell(Layer::Layout, at.line, at.field, 21),
+            Fault::Study(refusal) => tell(Layer::Study, 1, 0, u8::from(refusal)),
         }
     }
 }

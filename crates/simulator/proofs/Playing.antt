@@ -107,25 +107,25 @@ module _ (f : Form) (o : Result RunMeaning Fault) (ks : List Call) where
         → OnOk w' (Appends a c (text_of (study_lines f o ks)))
     study_told w w' a b c g h =
         subst (λ x. OnOk w' (Appends a c (text_of (study_lines f x ks)))) is
-            (subst (λ x. OnOk w' (Appends a c (text_of (turn_lines f 1 (history r ks) ++ f.quote x ∷ [])))) quote
-                (on_both w w' g h (λ x y. line_more a b c _ (f.quote q) x (subst (Appends b c) of y))))
+        (subst (λ x. OnOk w' (Appends a c (text_of (turn_lines f 1 (history r ks) ++ f.quote x ∷ [])))) quote
+        (on_both w w' g h (λ x y. line_more a b c _ (f.quote q) x (subst (Appends b c) of y))))
 
     pub study_reads : ReadsAs (text_of (turn_lines f 1 (history r ks))) (turn_lines f 1 (history r ks)) → ReadsAs line (f.quote q ∷ []) → ReadsAs (text_of (study_lines f o ks)) (study_lines f o ks)
     study_reads g h =
         subst (λ x. ReadsAs (text_of (study_lines f x ks)) (study_lines f x ks)) is
-            (subst (λ x. ReadsAs (text_of (turn_lines f 1 (history r ks) ++ f.quote x ∷ [])) (turn_lines f 1 (history r ks) ++ f.quote x ∷ [])) quote
-                (reads_more _ (f.quote q) g (subst (λ t. ReadsAs t (f.quote q ∷ [])) of h)))
+        (subst (λ x. ReadsAs (text_of (turn_lines f 1 (history r ks) ++ f.quote x ∷ [])) (turn_lines f 1 (history r ks) ++ f.quote x ∷ [])) quote
+        (reads_more _ (f.quote q) g (subst (λ t. ReadsAs t (f.quote q ∷ [])) of h)))
 
   module _ (e : Fault) (is : Err e ≡ o) (line : List ℕ) (of : line ≡ line_of (f.fault e)) where
     pub fault_told : {E : Type 0} (P : Type 0) (w : Result (Unit {0}) E) (a c : Option (List ℕ)) → OnOk w (P × Appends a c line) → OnOk w (Appends a c (text_of (study_lines f o ks)))
     fault_told P w a c h =
         subst (λ x. OnOk w (Appends a c (text_of (study_lines f x ks)))) is
-            (on_one w h (λ x. subst (Appends a c) (of ∙ sym (text_of-one (f.fault e))) x.1))
+        (on_one w h (λ x. subst (Appends a c) (of ∙ sym (text_of-one (f.fault e))) x.1))
 
     pub fault_reads : ReadsAs line (f.fault e ∷ []) → ReadsAs (text_of (study_lines f o ks)) (study_lines f o ks)
     fault_reads h =
         subst (λ x. ReadsAs (text_of (study_lines f x ks)) (study_lines f x ks)) is
-            (subst (λ t. ReadsAs t (f.fault e ∷ [])) (of ∙ sym (text_of-one (f.fault e))) h)
+        (subst (λ t. ReadsAs t (f.fault e ∷ [])) (of ∙ sym (text_of-one (f.fault e))) h)
 
 -- a text with a fault
 module _ (r : Result Read Fault) (cs : List CoreMeaning) (m : MemoryMeaning) (e : Fault) (is : Err e ≡ r) (line : List ℕ) (of : line ≡ line_of (fault_fields e)) where

@@ -8,8 +8,8 @@ ghost use Rattle.report.specs.Lines.{text_of};
 ghost use Rattle.report.specs.Reading.{ReadBack};
 ghost use Rattle.simulator.specs.Report.{turn_lines};
 
-use crate::telling::Telling;
 use crate::output::write;
+use crate::telling::Telling;
 use memory::Memory;
 use row::Row;
 use scenario::steps::Steps;
