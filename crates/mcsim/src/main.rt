@@ -3,7 +3,7 @@
 
 use anyhow::anyhow;
 use machine::{BLOCKS, IN_WORDS, two_cores};
-use memory::cell::{Cell, State};
+use memory::cell::UNSET;
 use memory::flat::Flat;
 use scenario::layout::{REFERENCES, UNPLACED};
 use simulator::simulate::simulate;
@@ -21,15 +21,9 @@ const FORMAT: &str = "docs/SCENARIO.md tells the format of scenarios and reports
 
 The exit status is 0 whenever a report was written, also that of a fault.";
 
-// The memory of the machine. Opening a study stores a stamp in every cell, so it makes no difference what these hold.
-const TABLE: [Cell; BLOCKS] = [Cell {
-    state: State::Stale,
-    stamp: 0,
-}; BLOCKS];
-
 fn report(rt: &HostRuntime, text: &[u8]) -> anyhow::Result<()> {
     let mut layout = [UNPLACED; REFERENCES];
-    let mut table = TABLE;
+    let mut table = [UNSET; BLOCKS];
     let row = two_cores(rt.alloc())?;
     let mut out = BufWriter::new(rt.alloc(), rt.stdout())?;
     let simulated = simulate(text, &mut layout, row, Flat::over(&mut table), &mut out);
