@@ -1,0 +1,4 @@
+pub mod Requests
+pub mod Played
+pub mod Eight
+pub mod Reported

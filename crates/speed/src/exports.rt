@@ -1,0 +1,77 @@
+//! What C calls.
+ghost use Rattle.std.specs.Prelude.{◌≡◌, ◌<◌, ◌≤◌, map, length, take, drop};
+ghost use Rattle.std.specs.Bool.{OnTrue, OnFalse};
+ghost use Rattle.machine.specs.Machine.{two_cores};
+ghost use Rattle.speed.specs.Requests.{call_of};
+ghost use Rattle.speed.specs.Eight.{eight_cores};
+ghost use Rattle.speed.specs.Played.{Played};
+ghost use Rattle.speed.specs.Reported.{Reported};
+
+use crate::eight::eight_cores;
+use crate::play::play;
+use crate::requests::{Request, Tally};
+use crate::told::told;
+use machine::two_cores;
+use std::alloc::Global;
+
+/// Plays what is asked for on two cores over a memory of so many blocks, 1 to 4,096, and writes what it came to. A `false` says
+/// that the memory is none, or that there is no room for it.
+#[unsafe(no_mangle)]
+pub extern "C" fn speed_two_cores(
+    heap: Global,
+    blocks: u16,
+    requests: &[Request],
+    tally: &mut Tally,
+) -> bool
+    ensures played { OnTrue result (Played two_cores blocks (map call_of requests.now) tally.new) }
+    ensures kept { OnFalse result (tally.new ≡ tally.old) }
+{
+    let Ok(row) = two_cores(heap) else {
+        return false;
+    };
+    let Some(played) = play(heap, row, blocks, requests) else {
+        return false;
+    };
+    *tally = played;
+    true
+}
+
+/// The same on eight cores.
+#[unsafe(no_mangle)]
+pub extern "C" fn speed_eight_cores(
+    heap: Global,
+    blocks: u16,
+    requests: &[Request],
+    tally: &mut Tally,
+) -> bool
+    ensures played { OnTrue result (Played eight_cores blocks (map call_of requests.now) tally.new) }
+    ensures kept { OnFalse result (tally.new ≡ tally.old) }
+{
+    let Ok(row) = eight_cores(heap) else {
+        return false;
+    };
+    let Some(played) = play(heap, row, blocks, requests) else {
+        return false;
+    };
+    *tally = played;
+    true
+}
+
+/// Reads a scenario, plays it on two cores over 16 blocks, writes the report to the front of the buffer and answers how many
+/// bytes it has. A 0 says that the buffer is too short, or that there is no memory.
+#[unsafe(no_mangle)]
+pub extern "C" fn speed_report(heap: Global, text: &[u8], buffer: &mut [u8]) -> usize
+    ensures report { 0 < result → Reported two_cores 16 text.now (take result buffer.new) }
+    ensures rest { drop result buffer.new ≡ drop result buffer.old }
+    ensures within { result ≤ length buffer.new }
+{
+    let Ok(bytes) = told(heap, text, buffer.len()) else {
+        return 0;
+    };
+    let written = bytes.len();
+    if written > buffer.len() {
+        return 0;
+    }
+    buffer[..written].copy_from_slice(bytes.as_slice());
+    written
+}
