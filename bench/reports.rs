@@ -1,11 +1,8 @@
-//! mcsim in plain Rust: the same machine, the same scenarios and the same reports. Nothing is proved here.
-use std::io::{self, BufWriter, Read, Write};
+//! Scenarios and their reports in plain Rust, on the machine of mcsim. Nothing is proved here.
+use crate::rules::{Answer, Call, Level, Machine, Refusal};
+use std::io::{self, Write};
 
-mod rules;
-
-use rules::{Answer, Call, Level, Machine, Refusal};
-
-const MOST_BYTES: usize = 65_536;
+pub const MOST_BYTES: usize = 65_536;
 const MOST_LINE: usize = 80;
 const MOST_WEIGHT: u16 = 1_000;
 const REFERENCES: usize = 256;
@@ -180,21 +177,15 @@ fn play(scenario: &Scenario, out: &mut impl Write) -> io::Result<()> {
     }
 }
 
-fn main() -> io::Result<()> {
-    let mut bytes = Vec::new();
-    io::stdin()
-        .lock()
-        .take(MOST_BYTES as u64 + 1)
-        .read_to_end(&mut bytes)?;
-    let mut out = BufWriter::new(io::stdout().lock());
-    match Scenario::read(&bytes) {
-        Ok(scenario) => play(&scenario, &mut out)?,
+/// Writes the report of a scenario.
+pub fn report(text: &[u8], out: &mut impl Write) -> io::Result<()> {
+    match Scenario::read(text) {
+        Ok(scenario) => play(&scenario, out),
         Err(Fault {
             layer,
             line,
             field,
             number,
-        }) => writeln!(out, "fault\t{layer}\t{line}\t{field}\t{number}")?,
+        }) => writeln!(out, "fault\t{layer}\t{line}\t{field}\t{number}"),
     }
-    out.flush()
 }

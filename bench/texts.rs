@@ -1,0 +1,56 @@
+//! Scenarios, good ones and damaged ones.
+use crate::random::Random;
+use crate::reports::MOST_BYTES;
+use std::iter;
+
+const REFERENCES: u16 = 24;
+
+/// What a core does with a reference, and the other core for it.
+fn access(random: &mut Random) -> Vec<String> {
+    let core = random.below(2);
+    let reference = random.below(REFERENCES);
+    let word = if random.below(3) == 0 {
+        "write"
+    } else {
+        "read"
+    };
+    let mut lines = vec![
+        format!("{word}\t{core}\t{reference}\n"),
+        format!("flush\t{}\t{reference}\n", 1 - core),
+        format!("fetch\t{core}\n"),
+        format!("resume\t{core}\n"),
+    ];
+    if random.below(20) == 0 {
+        lines.push(format!("commit\t{core}\t{reference}\n"));
+    }
+    lines
+}
+
+/// As many lines as a text may have bytes for.
+pub fn whole(seed: u64) -> Vec<u8> {
+    let mut random = Random::new(seed);
+    let weights = iter::once("weights\t1\t10\t10\t10\t100\n".to_string());
+    let placements = (0..REFERENCES).map(|r| format!("ref\t{r}\t{}\n", r * 7 % 16));
+    let steps = iter::repeat_with(|| access(&mut random)).flatten();
+    let mut text = Vec::new();
+    for line in weights.chain(placements).chain(steps) {
+        if text.len() + line.len() > MOST_BYTES {
+            break;
+        }
+        text.extend_from_slice(line.as_bytes());
+    }
+    text
+}
+
+/// The front of a text, with up to three bytes changed.
+pub fn damaged(text: &[u8], seed: u64) -> Vec<u8> {
+    const BYTES: &[u8] = b"0123456789\t\n\r+ abrefw";
+    let mut random = Random::new(seed);
+    let length = 1 + usize::from(random.below(2_000));
+    let mut bad = text[..length.min(text.len())].to_vec();
+    for _ in 0..=random.below(3) {
+        let place = usize::from(random.below(bad.len() as u16));
+        bad[place] = BYTES[usize::from(random.below(BYTES.len() as u16))];
+    }
+    bad
+}
