@@ -50,6 +50,7 @@ impl Direct {
     }
 
     // The number of the line of a block.
+    #[inline(always)]
     fn slot(&self, block: u16) -> usize
         ensures value { result ≡ slot self.now.lines.items block }
         ensures within { result < vec_len self.now.lines }
@@ -58,6 +59,7 @@ impl Direct {
     }
 
     // The line in its slot, if it has the block.
+    #[inline(always)]
     fn held(&self, slot: usize, block: u16) -> Option<Line>
         requires { slot < vec_len self.now.lines }
         ensures { result ≡ having (slice_index_or self.now.lines.items slot None) block }
@@ -78,10 +80,12 @@ impl Tier for Direct {
         1
     }
 
+    #[inline(always)]
     fn look(&self, block: u16) -> Option<(u32, u32, u32)> {
         self.held(self.slot(block), block).map(Line::shown)
     }
 
+    #[inline(always)]
     fn put(&mut self, line: Line) -> Result<Option<Line>, Refusal> {
         let slot = self.slot(line.block);
         if self.held(slot, line.block).is_some() {
@@ -90,6 +94,7 @@ impl Tier for Direct {
         Ok(self.lines[slot].replace(line))
     }
 
+    #[inline(always)]
     fn take(&mut self, block: u16) -> Option<(u32, u32, u32)> {
         let slot = self.slot(block);
         let line = self.held(slot, block)?;
@@ -97,6 +102,7 @@ impl Tier for Direct {
         Some(line.shown())
     }
 
+    #[inline(always)]
     fn change(&mut self, line: Line) -> Result<(), Refusal> {
         let slot = self.slot(line.block);
         self.held(slot, line.block).ok_or(Refusal::NotHeld)?;
@@ -104,6 +110,7 @@ impl Tier for Direct {
         Ok(())
     }
 
+    #[inline(always)]
     fn touch(&mut self, block: u16) -> Result<(), Refusal> {
         self.held(self.slot(block), block).ok_or(Refusal::NotHeld)?;
         Ok(())

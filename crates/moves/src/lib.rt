@@ -12,6 +12,7 @@ use parts::mark::Mark;
 use tier::Tier;
 
 /// Puts a block, and gives out the one that leaves for it. A block that is held stays as it is.
+#[inline(always)]
 pub fn put_block<T: Tier>(tier: &mut T, line: Line) -> Option<Line>
     ensures answer { result ≡ given (put_answer (T.Tier.meaning tier.old) line.block line.mark line.stamp) }
     ensures next { T.Tier.meaning tier.new ≡ after (T.Tier.meaning tier.old) (put line.block line.mark line.stamp) }
@@ -20,6 +21,7 @@ pub fn put_block<T: Tier>(tier: &mut T, line: Line) -> Option<Line>
 }
 
 // Takes a block that is held below level 1, and puts it again with its mark and stamp.
+#[inline(always)]
 fn put_back<T: Tier>(tier: &mut T, block: u16, mark: u32, stamp: u32) -> Option<Line>
     ensures answer { result ≡ put_back_out (T.Tier.meaning tier.old) block (mark_of mark) stamp }
     ensures next { T.Tier.meaning tier.new ≡ put_back (T.Tier.meaning tier.old) block (mark_of mark) stamp }
@@ -30,6 +32,7 @@ fn put_back<T: Tier>(tier: &mut T, block: u16, mark: u32, stamp: u32) -> Option<
 }
 
 // Touches a block that is held at level 1, and puts one that is held below it again.
+#[inline(always)]
 fn raise<T: Tier>(tier: &mut T, block: u16, held: (u32, u32, u32)) -> Option<Line>
     ensures answer { result ≡ raised_out (T.Tier.meaning tier.old) block held }
     ensures next { T.Tier.meaning tier.new ≡ raised (T.Tier.meaning tier.old) block held }
@@ -43,6 +46,7 @@ fn raise<T: Tier>(tier: &mut T, block: u16, held: (u32, u32, u32)) -> Option<Lin
 }
 
 /// Brings a block that is held so up to level 1, where it keeps its mark and stamp, and gives out the one that leaves for it.
+#[inline(always)]
 pub fn bring_up<T: Tier>(tier: &mut T, block: u16, held: (u32, u32, u32)) -> Option<Line>
     ensures answer { result ≡ raised_out (T.Tier.meaning tier.old) block held }
     ensures next { T.Tier.meaning tier.new ≡ raised (T.Tier.meaning tier.old) block held }
@@ -52,6 +56,7 @@ pub fn bring_up<T: Tier>(tier: &mut T, block: u16, held: (u32, u32, u32)) -> Opt
 }
 
 /// The stamp of a copy that is modified.
+#[inline(always)]
 pub fn modified_stamp(held: Option<(u32, u32, u32)>) -> Option<u32>
     ensures { result ≡ modified_stamp held }
 {
@@ -60,6 +65,7 @@ pub fn modified_stamp(held: Option<(u32, u32, u32)>) -> Option<u32>
 }
 
 /// Drops a block, and tells its stamp if the copy was modified.
+#[inline(always)]
 pub fn drop_block<T: Tier>(tier: &mut T, block: u16) -> Option<u32>
     ensures answer { result ≡ modified_stamp (look_of (T.Tier.meaning tier.old) block) }
     ensures next { T.Tier.meaning tier.new ≡ after (T.Tier.meaning tier.old) (take block) }

@@ -42,10 +42,12 @@ impl<R: Row, S: Row> Row for Pair<R, S> {
 
     ghost lawful = { λ r. lawful_both _ _ (R.Row.lawful r.first) (S.Row.lawful r.second) };
 
+    #[inline(always)]
     fn count(&self) -> u16 {
         (self.first.count() + self.second.count()).min(MOST_CORES + 1)
     }
 
+    #[inline(always)]
     #[tactic(auto, using(crate::proofs::Seated::by_seat), unfolding(row::specs::Cores::absent))]
     fn state(&self, core: u16) -> CoreState {
         let before = self.first.count();
@@ -58,6 +60,7 @@ impl<R: Row, S: Row> Row for Pair<R, S> {
         }
     }
 
+    #[inline(always)]
     #[tactic(auto, using(crate::proofs::Seated::by_seat), unfolding(row::specs::Cores::absent))]
     fn turn(&mut self, core: u16, state: CoreState) {
         let before = self.first.count();
@@ -71,6 +74,7 @@ impl<R: Row, S: Row> Row for Pair<R, S> {
         }
     }
 
+    #[inline(always)]
     #[tactic(auto, using(crate::proofs::Seated::by_seat), unfolding(row::specs::Cores::absent))]
     fn look(&self, core: u16, block: u16) -> Option<(u32, u32, u32)> {
         let before = self.first.count();
@@ -83,6 +87,7 @@ impl<R: Row, S: Row> Row for Pair<R, S> {
         }
     }
 
+    #[inline(always)]
     #[tactic(auto, using(crate::proofs::Seated::by_seat), unfolding(row::specs::Cores::absent))]
     fn operate(&mut self, core: u16, operation: Operation) -> Option<Line> {
         let before = self.first.count();

@@ -30,6 +30,7 @@ impl<T: Tier> Core<T> {
     }
 }
 
+#[inline(always)]
 fn apply<T: Tier>(tier: &mut T, operation: Operation) -> Option<Line>
     ensures answer { result ≡ operated_out (T.Tier.meaning tier.old) operation }
     ensures next { T.Tier.meaning tier.new ≡ operated (T.Tier.meaning tier.old) operation }
@@ -44,6 +45,7 @@ fn apply<T: Tier>(tier: &mut T, operation: Operation) -> Option<Line>
     }
 }
 
+#[inline(always)]
 fn waits_for(state: CoreState, block: u16) -> bool
     ensures { result ≡ awaits block state }
 {
@@ -59,10 +61,12 @@ impl<T: Tier> Row for Core<T> {
 
     ghost lawful = { λ r. (T.Tier.lawful r.tier, tt) };
 
+    #[inline(always)]
     fn count(&self) -> u16 {
         1
     }
 
+    #[inline(always)]
     #[tactic(auto, using(crate::proofs::Single::of_one), unfolding(crate::specs::Cores::absent))]
     fn state(&self, core: u16) -> CoreState {
         if core == 0 {
@@ -72,6 +76,7 @@ impl<T: Tier> Row for Core<T> {
         }
     }
 
+    #[inline(always)]
     #[tactic(auto, using(crate::proofs::Single::of_one), unfolding(crate::specs::Cores::absent))]
     fn turn(&mut self, core: u16, state: CoreState) {
         if core == 0 {
@@ -79,6 +84,7 @@ impl<T: Tier> Row for Core<T> {
         }
     }
 
+    #[inline(always)]
     #[tactic(auto, using(crate::proofs::Single::of_one), unfolding(crate::specs::Cores::absent))]
     fn look(&self, core: u16, block: u16) -> Option<(u32, u32, u32)> {
         if core == 0 {
@@ -88,6 +94,7 @@ impl<T: Tier> Row for Core<T> {
         }
     }
 
+    #[inline(always)]
     #[tactic(auto, using(crate::proofs::Single::of_one), unfolding(crate::specs::Cores::absent))]
     fn operate(&mut self, core: u16, operation: Operation) -> Option<Line> {
         if core == 0 {
