@@ -42,12 +42,14 @@ impl Counts {
         }
     }
 
+    #[inline(always)]
     pub(crate) fn steps(&self) -> u32
         ensures { result ≡ self.now.steps }
     {
         self.steps
     }
 
+    #[inline(always)]
     pub(crate) fn writes(&self) -> u32
         ensures writes { result ≡ self.now.writes }
         ensures bound { result ≤ most_steps }
@@ -77,6 +79,7 @@ impl Counts {
     }
 
     /// One more accepted step, with what it performed and what it is charged.
+    #[inline(always)]
     pub(crate) fn accept(&mut self, performed: Performed, charge: u32)
         requires { (self.old.steps < most_steps) × (charge ≤ most_charge) }
         ensures { self.new ≡ tallied self.old performed charge }

@@ -12,6 +12,7 @@ use row::Row;
 use row::message::Message;
 
 /// Stores a stamp in main memory. Every store of a study is made here.
+#[inline(always)]
 pub(crate) fn store<M: Memory>(memory: &mut M, block: u16, stamp: u32)
     ensures { M.Memory.meaning memory.new ≡ after (M.Memory.meaning memory.old) (store block stamp) }
 {
@@ -19,6 +20,7 @@ pub(crate) fn store<M: Memory>(memory: &mut M, block: u16, stamp: u32)
 }
 
 /// The stamp of a block that is valid in main memory.
+#[inline(always)]
 pub(crate) fn valid<M: Memory>(memory: &M, block: u16) -> Option<u32>
     ensures { result ≡ valid (M.Memory.meaning memory.now) block }
 {
@@ -26,6 +28,7 @@ pub(crate) fn valid<M: Memory>(memory: &M, block: u16) -> Option<u32>
 }
 
 /// A line leaves the caches: modified, it is stored in main memory; shared, it is dropped.
+#[inline(always)]
 pub(crate) fn leave<M: Memory>(memory: &mut M, out: Option<Line>) -> Movement
     ensures answer { result ≡ movement_of out }
     ensures next { M.Memory.meaning memory.new ≡ memory_taking out (M.Memory.meaning memory.old) }

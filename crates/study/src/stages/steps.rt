@@ -28,6 +28,7 @@ use row::operation::Operation;
 // A core and a block stand apart, as in `Call::Read(0, 3)`: a struct of the two would be made at each line of a schedule.
 impl<R: Row, M: Memory> Run<R, M> {
     // The core cannot make the access yet.
+    #[inline(always)]
     fn wait(&mut self, core: u16, wanted: Access) -> Effect
         ensures { Does R.cores M.meaning self.old self.new (Ok result) (waiting (run_of R.cores M.meaning self.old) core wanted) }
     {
@@ -41,6 +42,7 @@ impl<R: Row, M: Memory> Run<R, M> {
     }
 
     // A core reads a block that it holds so.
+    #[inline(always)]
     fn read_held(&mut self, core: u16, block: u16, held: (u32, u32, u32)) -> Effect
         ensures { Does R.cores M.meaning self.old self.new (Ok result) (reading (run_of R.cores M.meaning self.old) core block held) }
     {
@@ -85,6 +87,7 @@ impl<R: Row, M: Memory> Run<R, M> {
     }
 
     // An access as a ready core makes it.
+    #[inline(always)]
     fn perform(&mut self, core: u16, wanted: Access) -> Effect
         ensures { Does R.cores M.meaning self.old self.new (Ok result) (access (run_of R.cores M.meaning self.old) core wanted) }
     {
@@ -96,6 +99,7 @@ impl<R: Row, M: Memory> Run<R, M> {
     }
 
     // The block that a core waits for, valid in memory with this stamp, comes to it.
+    #[inline(always)]
     fn bring(&mut self, core: u16, access: Access, stamp: u32) -> Effect
         ensures { Does R.cores M.meaning self.old self.new (Ok result) (fetching (run_of R.cores M.meaning self.old) core access stamp) }
     {
@@ -115,6 +119,7 @@ impl<R: Row, M: Memory> Run<R, M> {
         }
     }
 
+    #[inline(always)]
     fn fetch(&mut self, core: u16, access: Access) -> Result<Effect, Refusal>
         ensures { Does R.cores M.meaning self.old self.new result (fetch (run_of R.cores M.meaning self.old) core access) }
     {
@@ -123,6 +128,7 @@ impl<R: Row, M: Memory> Run<R, M> {
     }
 
     // Main memory takes a copy that a core holds modified with this stamp, and the copy is shared.
+    #[inline(always)]
     fn clean(&mut self, core: u16, block: u16, stamp: u32, answer: Answer) -> Effect
         ensures { Does R.cores M.meaning self.old self.new (Ok result) (cleaning (run_of R.cores M.meaning self.old) core block stamp answer) }
     {
@@ -141,6 +147,7 @@ impl<R: Row, M: Memory> Run<R, M> {
         }
     }
 
+    #[inline(always)]
     fn flush(&mut self, core: u16, block: u16) -> Result<Effect, Refusal>
         ensures { Does R.cores M.meaning self.old self.new result (flush (run_of R.cores M.meaning self.old) core block) }
     {
@@ -159,6 +166,7 @@ impl<R: Row, M: Memory> Run<R, M> {
         }
     }
 
+    #[inline(always)]
     fn commit(&mut self, core: u16, block: u16) -> Effect
         ensures { Does R.cores M.meaning self.old self.new (Ok result) (commit (run_of R.cores M.meaning self.old) core block) }
     {
@@ -195,6 +203,7 @@ impl<R: Row, M: Memory> Run<R, M> {
     }
 
     // Counts an accepted step and charges its two movements. Every charge of a run is made here.
+    #[inline(always)]
     fn charge(&mut self, effect: Effect)
         requires { self.old.counts.steps < most_steps }
         ensures { self.new ≡ record self.old { counts = tallied self.old.counts effect.performed (charged (prices_of self.old.weights) effect.moved effect.left) } }
