@@ -26,7 +26,15 @@ fn access(random: &mut Random) -> Vec<String> {
     lines
 }
 
-/// As many lines as a text may have bytes for.
+/// A line of just so many bytes, 8 to 15.
+fn line_of(length: usize) -> String {
+    match length as u32 {
+        length @ 8..=12 => format!("fetch\t{}\n", 10u32.pow(length - 8)),
+        length => format!("commit\t{}\t0\n", 10u32.pow(length - 11)),
+    }
+}
+
+/// A scenario of just as many bytes as a text may have.
 pub fn whole(seed: u64) -> Vec<u8> {
     let mut random = Random::new(seed);
     let weights = iter::once("weights\t1\t10\t10\t10\t100\n".to_string());
@@ -34,11 +42,15 @@ pub fn whole(seed: u64) -> Vec<u8> {
     let steps = iter::repeat_with(|| access(&mut random)).flatten();
     let mut text = Vec::new();
     for line in weights.chain(placements).chain(steps) {
-        if text.len() + line.len() > MOST_BYTES {
+        if text.len() + line.len() + 8 > MOST_BYTES {
             break;
         }
         text.extend_from_slice(line.as_bytes());
     }
+    while text.len() + 16 <= MOST_BYTES {
+        text.extend_from_slice(line_of(8).as_bytes());
+    }
+    text.extend_from_slice(line_of(MOST_BYTES - text.len()).as_bytes());
     text
 }
 
