@@ -1,5 +1,5 @@
-//! The benchmark: the proved simulator, linked as a static library, beside plain Rust of the same rules, in one process.
-//! Times are told, never judged: only a difference in what the two answer is an error.
+//! The benchmark: the proved simulator, linked as a static library, beside plain Rust of the same rules, in one process. Times
+//! are told, never judged: only a difference in what the two answer is an error.
 use std::error::Error;
 use std::hint::black_box;
 
@@ -15,7 +15,8 @@ use schedule::Kind;
 
 const ROUNDS: usize = 15;
 const REPORT_ROUNDS: usize = 300;
-/// More than the longest report of 65,536 bytes: at most 8,192 steps, each told in fewer than 32 bytes.
+const DAMAGED: u64 = 400;
+/// More than any report of 65,536 bytes: at most 8,192 steps, each told in fewer than 32 bytes.
 const ROOM: usize = 1 << 18;
 
 /// A direct level of 2 lines on 2 sets of 2 ways.
@@ -47,27 +48,32 @@ const KINDS: [Kind; 2] = [
     },
 ];
 
-/// The least seconds of many rounds for each of the two, which take turns, so that a disturbance falls on both.
-fn fastest(rounds: usize, mut proved: impl FnMut(), mut plain: impl FnMut()) -> (f64, f64) {
-    let time = |work: &mut dyn FnMut()| {
-        let start = library::seconds();
-        work();
-        library::seconds() - start
-    };
-    (0..rounds).fold((f64::INFINITY, f64::INFINITY), |best, _| {
-        (best.0.min(time(&mut proved)), best.1.min(time(&mut plain)))
-    })
+/// The seconds of one piece of work.
+fn time(work: &mut impl FnMut()) -> f64 {
+    let start = library::seconds();
+    work();
+    library::seconds() - start
 }
 
-/// That both make the same of a schedule, and the least seconds that each takes for it.
-fn compare(kind: &Kind, steps: u32, blocks: u16, rounds: usize) -> Result<(f64, f64), String> {
+/// The least seconds of many rounds for each of the two, which take turns, so that a disturbance falls on both.
+fn fastest(rounds: usize, mut proved: impl FnMut(), mut plain: impl FnMut()) -> (f64, f64) {
+    let mut best = (f64::INFINITY, f64::INFINITY);
+    for _ in 0..rounds {
+        best.0 = best.0.min(time(&mut proved));
+        best.1 = best.1.min(time(&mut plain));
+    }
+    best
+}
+
+/// The least seconds of each of the two for a schedule, once they came to the same.
+fn play(kind: &Kind, steps: u32, blocks: u16, rounds: usize) -> Result<(f64, f64), String> {
     let requests = kind.requests(steps, blocks);
     let proved = (kind.proved)(blocks, &requests);
     let plain = kind.plain(blocks, &requests);
     if proved != Some(plain) {
+        let name = kind.name;
         return Err(format!(
-            "{}, {steps} steps, {blocks} blocks: {proved:?} and {plain:?}",
-            kind.name
+            "{name}, {steps} steps, {blocks} blocks: Rattle comes to {proved:?}, Rust to {plain:?}"
         ));
     }
     Ok(fastest(
@@ -77,12 +83,12 @@ fn compare(kind: &Kind, steps: u32, blocks: u16, rounds: usize) -> Result<(f64, 
     ))
 }
 
-fn check_schedules() -> Result<(), String> {
+fn compare_schedules() -> Result<(), String> {
     let mut sizes = 0;
     for kind in &KINDS {
         for steps in [0, 1, 1_000, MOST_STEPS] {
             for blocks in [1, 3, 16, 100, 4_096] {
-                compare(kind, steps, blocks, 0)?;
+                play(kind, steps, blocks, 0)?;
                 sizes += 1;
             }
         }
@@ -92,85 +98,89 @@ fn check_schedules() -> Result<(), String> {
 }
 
 fn time_schedules() -> Result<(), String> {
-    println!(
-        "\n{MOST_STEPS} steps           million steps a second, Rattle    Rust   times as long"
-    );
+    println!("\nmillion steps a second       Rattle    Rust    ratio of times");
     for kind in &KINDS {
-        let (a, b) = compare(kind, MOST_STEPS, kind.blocks, ROUNDS)?;
+        let (proved, plain) = play(kind, MOST_STEPS, kind.blocks, ROUNDS)?;
         let speed = |seconds: f64| f64::from(MOST_STEPS) / seconds / 1e6;
         println!(
-            "{:<36}{:>21.1}{:>8.1}{:>16.2}",
+            "{:<25}{:>10.1}{:>8.1}{:>18.2}",
             kind.name,
-            speed(a),
-            speed(b),
-            a / b
+            speed(proved),
+            speed(plain),
+            proved / plain
         );
     }
     Ok(())
 }
 
-fn time_steps(sizes: impl Fn(&Kind) -> [(u32, u16); 3]) -> Result<(), String> {
-    println!("\n                             steps  blocks  nanoseconds a step, Rattle    Rust");
+fn time_steps(title: &str, sizes: impl Fn(&Kind) -> [(u32, u16); 3]) -> Result<(), String> {
+    println!("\nnanoseconds a step, {title}");
+    println!("                             steps   blocks    Rattle    Rust");
     for kind in &KINDS {
         for (steps, blocks) in sizes(kind) {
-            let (a, b) = compare(kind, steps, blocks, ROUNDS)?;
+            let (proved, plain) = play(kind, steps, blocks, ROUNDS)?;
             let each = |seconds: f64| seconds / f64::from(steps) * 1e9;
             println!(
-                "{:<25}{steps:>9}{blocks:>8}{:>28.1}{:>8.1}",
+                "{:<25}{steps:>9}{blocks:>9}{:>10.1}{:>8.1}",
                 kind.name,
-                each(a),
-                each(b)
+                each(proved),
+                each(plain)
             );
         }
     }
     Ok(())
 }
 
-fn check_reports(texts: &[Vec<u8>], buffer: &mut [u8]) -> Result<(), Box<dyn Error>> {
-    let damaged = (0..400).map(|seed| texts::damaged(&texts[seed % texts.len()], seed as u64));
-    let mut count = 0;
-    for text in texts.iter().cloned().chain(damaged) {
+fn compare_reports(wholes: &[Vec<u8>], buffer: &mut [u8]) -> Result<(), Box<dyn Error>> {
+    let mut all = texts::odd(&wholes[0]);
+    all.extend(
+        (0..DAMAGED).map(|seed| texts::damaged(&wholes[seed as usize % wholes.len()], seed)),
+    );
+    for (number, text) in wholes.iter().chain(&all).enumerate() {
         let mut plain = Vec::new();
-        reports::report(&text, &mut plain)?;
-        if library::report(&text, buffer) != Some(&plain[..]) {
-            return Err(format!("the two write different reports of text {count}").into());
+        reports::report(text, &mut plain)?;
+        if library::report(text, buffer) != Some(&plain[..]) {
+            return Err(format!("the two write different reports of text {number}").into());
         }
-        count += 1;
     }
+    let count = wholes.len() + all.len();
     println!("\nThe two write the same reports of {count} texts.");
     Ok(())
 }
 
 fn time_reports() -> Result<(), Box<dyn Error>> {
-    let texts: Vec<Vec<u8>> = (0..4).map(texts::whole).collect();
+    let wholes: Vec<Vec<u8>> = (0..4).map(texts::whole).collect();
     let mut buffer = vec![0; ROOM];
-    check_reports(&texts, &mut buffer)?;
-    let mut plain = Vec::with_capacity(ROOM);
-    let (a, b) = fastest(
+    compare_reports(&wholes, &mut buffer)?;
+    let text = &wholes[0];
+    let mut written = Vec::with_capacity(ROOM);
+    let (proved, plain) = fastest(
         REPORT_ROUNDS,
-        || _ = black_box(library::report(&texts[0], &mut buffer)),
+        || _ = black_box(library::report(text, &mut buffer)),
         || {
-            plain.clear();
-            _ = black_box(reports::report(&texts[0], &mut plain));
+            written.clear();
+            _ = black_box(reports::report(text, &mut written));
         },
     );
+    println!("\nmilliseconds a scenario      Rattle    Rust    ratio of times");
     println!(
-        "\nA scenario of {} bytes   milliseconds, Rattle    Rust   times as long",
-        texts[0].len()
-    );
-    println!(
-        "read, played and reported{:>26.3}{:>8.3}{:>16.2}",
-        a * 1e3,
-        b * 1e3,
-        a / b
+        "{:<25}{:>10.3}{:>8.3}{:>18.2}",
+        format!("of {} bytes, reported", text.len()),
+        proved * 1e3,
+        plain * 1e3,
+        proved / plain
     );
     Ok(())
 }
 
 fn main() -> Result<(), Box<dyn Error>> {
-    check_schedules()?;
+    compare_schedules()?;
     time_schedules()?;
-    time_steps(|kind| [250_000, 500_000, MOST_STEPS].map(|steps| (steps, kind.blocks)))?;
-    time_steps(|_| [16, 256, 4_096].map(|blocks| (MOST_STEPS, blocks)))?;
+    time_steps("as steps grow", |kind| {
+        [250_000, 500_000, MOST_STEPS].map(|steps| (steps, kind.blocks))
+    })?;
+    time_steps("as memory grows, and with it the share of misses", |_| {
+        [16, 256, 4_096].map(|blocks| (MOST_STEPS, blocks))
+    })?;
     time_reports()
 }

@@ -66,3 +66,15 @@ pub fn damaged(text: &[u8], seed: u64) -> Vec<u8> {
     }
     bad
 }
+
+/// Nothing, no weights, a last line without its end, and a byte too many.
+pub fn odd(text: &[u8]) -> Vec<Vec<u8>> {
+    let mut long = text.to_vec();
+    long.resize(MOST_BYTES + 1, b'\n');
+    vec![
+        Vec::new(),
+        b"\n".to_vec(),
+        text[..text.len() - 1].to_vec(),
+        long,
+    ]
+}
