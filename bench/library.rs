@@ -21,13 +21,8 @@ pub struct Tally {
 }
 
 unsafe extern "C" {
-    fn speed_two_cores(
-        blocks: u16,
-        requests: *const Request,
-        count: usize,
-        tally: *mut Tally,
-    ) -> bool;
-    fn speed_eight_cores(
+    fn speed_play(
+        deep: bool,
         blocks: u16,
         requests: *const Request,
         count: usize,
@@ -38,22 +33,29 @@ unsafe extern "C" {
     safe fn clock() -> c_long;
 }
 
-/// Plays the requests on two cores of two levels; none where the memory has no block or more than 4,096.
-pub fn two_cores(blocks: u16, requests: &[Request]) -> Option<Tally> {
+fn play(deep: bool, blocks: u16, requests: &[Request]) -> Option<Tally> {
     let mut tally = Tally::default();
     // SAFETY: the pointer and the length are of one slice, and both borrows last for the call.
-    let played =
-        unsafe { speed_two_cores(blocks, requests.as_ptr(), requests.len(), &raw mut tally) };
+    let played = unsafe {
+        speed_play(
+            deep,
+            blocks,
+            requests.as_ptr(),
+            requests.len(),
+            &raw mut tally,
+        )
+    };
     played.then_some(tally)
+}
+
+/// Plays the requests on two cores of two levels; none where the memory has no block or more than 4,096.
+pub fn two_cores(blocks: u16, requests: &[Request]) -> Option<Tally> {
+    play(false, blocks, requests)
 }
 
 /// The same on eight cores of four levels.
 pub fn eight_cores(blocks: u16, requests: &[Request]) -> Option<Tally> {
-    let mut tally = Tally::default();
-    // SAFETY: as above.
-    let played =
-        unsafe { speed_eight_cores(blocks, requests.as_ptr(), requests.len(), &raw mut tally) };
-    played.then_some(tally)
+    play(true, blocks, requests)
 }
 
 /// Writes the report of a scenario to the front of the buffer, and gives it back; none where it does not fit.

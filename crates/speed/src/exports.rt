@@ -1,5 +1,5 @@
 //! What C calls.
-ghost use Rattle.std.specs.Prelude.{◌≡◌, ◌<◌, ◌≤◌, map, length, take, drop};
+ghost use Rattle.std.specs.Prelude.{◌≡◌, ◌<◌, ◌≤◌, cond, map, length, take, drop, IfSome};
 ghost use Rattle.std.specs.Bool.{OnTrue, OnFalse};
 ghost use Rattle.machine.specs.Machine.{two_cores};
 ghost use Rattle.speed.specs.Requests.{call_of};
@@ -14,43 +14,36 @@ use crate::told::told;
 use machine::two_cores;
 use std::alloc::Global;
 
-/// Plays what is asked for on two cores over a memory of so many blocks, 1 to 4,096, and writes what it came to. A `false` says
-/// that the memory is none, or that there is no room for it.
-#[unsafe(no_mangle)]
-pub extern "C" fn speed_two_cores(
-    heap: Global,
-    blocks: u16,
-    requests: &[Request],
-    tally: &mut Tally,
-) -> bool
-    ensures played { OnTrue result (Played two_cores blocks (map call_of requests.now) tally.new) }
-    ensures kept { OnFalse result (tally.new ≡ tally.old) }
+// What is asked for, on the one machine or on the other.
+fn played(heap: Global, deep: bool, blocks: u16, requests: &[Request]) -> Option<Tally>
+    ensures { IfSome result (Played (cond deep eight_cores two_cores) blocks (map call_of requests.now)) }
 {
+    if deep {
+        let Ok(row) = eight_cores(heap) else {
+            return None;
+        };
+        return play(heap, row, blocks, requests);
+    }
     let Ok(row) = two_cores(heap) else {
-        return false;
+        return None;
     };
-    let Some(played) = play(heap, row, blocks, requests) else {
-        return false;
-    };
-    *tally = played;
-    true
+    play(heap, row, blocks, requests)
 }
 
-/// The same on eight cores.
+/// Plays what is asked for over a memory of so many blocks, 1 to 4,096, and writes what it came to: on eight cores of four
+/// levels if it is to be deep, else on two cores of two. A `false` says that the memory is none, or that there is no room for it.
 #[unsafe(no_mangle)]
-pub extern "C" fn speed_eight_cores(
+pub extern "C" fn speed_play(
     heap: Global,
+    deep: bool,
     blocks: u16,
     requests: &[Request],
     tally: &mut Tally,
 ) -> bool
-    ensures played { OnTrue result (Played eight_cores blocks (map call_of requests.now) tally.new) }
+    ensures played { OnTrue result (Played (cond deep eight_cores two_cores) blocks (map call_of requests.now) tally.new) }
     ensures kept { OnFalse result (tally.new ≡ tally.old) }
 {
-    let Ok(row) = eight_cores(heap) else {
-        return false;
-    };
-    let Some(played) = play(heap, row, blocks, requests) else {
+    let Some(played) = played(heap, deep, blocks, requests) else {
         return false;
     };
     *tally = played;

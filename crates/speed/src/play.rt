@@ -11,6 +11,7 @@ use crate::requests::{Request, Tally};
 use memory::Memory;
 use memory::cell::UNSET;
 use memory::flat::Flat;
+use protocol::call::Call;
 use protocol::weights::Prices;
 use row::Row;
 use std::alloc::Global;
@@ -29,7 +30,7 @@ fn make<R: Row, M: Memory>(run: &mut Run<R, M>, requests: &[Request])
     ensures { run_of R.cores M.meaning run.new ≡ played (run_of R.cores M.meaning run.old) (map call_of requests.now) }
 {
     for request in requests {
-        let _ = run.step(request.call());
+        let _ = run.step(Call::from(*request));
     }
 }
 

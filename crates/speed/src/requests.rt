@@ -22,18 +22,19 @@ pub struct Tally {
     pub total: u64,
 }
 
-impl Request {
-    /// The call that is asked for. A kind above 5 counts as 5.
-    pub fn call(self) -> Call
-        ensures { result ≡ call_of self }
-    {
-        match self.kind {
-            0 => Call::Read(self.core, self.block),
-            1 => Call::Write(self.core, self.block),
-            2 => Call::Fetch(self.core),
-            3 => Call::Resume(self.core),
-            4 => Call::Flush(self.core, self.block),
-            _ => Call::Commit(self.core, self.block),
+// A kind above 5 counts as 5.
+impl From<Request> for Call {
+    ghost from_gives = { λ request call. call ≡ call_of request };
+
+    fn from(request: Request) -> Call {
+        let Request { kind, core, block } = request;
+        match kind {
+            0 => Call::Read(core, block),
+            1 => Call::Write(core, block),
+            2 => Call::Fetch(core),
+            3 => Call::Resume(core),
+            4 => Call::Flush(core, block),
+            _ => Call::Commit(core, block),
         }
     }
 }

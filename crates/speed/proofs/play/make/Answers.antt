@@ -8,7 +8,7 @@ use Rattle.speed.proofs.play.make.Goals as goal
 pub loop-request-preserved : goal.loop-request-preserved
 loop-request-preserved g c =
     let r = run_of g.R.Row.cores g.M.Memory.meaning c.loop-request.run in
-    let made = c.step.ensures.run ∙ ap (λ k. (step r k).run) c.call.ensures in
+    let made = c.step.ensures.run ∙ ap (λ k. (step r k).run) c.from.ensures in
     played-next call_of r _ _ _ _ c.loop-request-test.true made ∙ c.loop-request.invariant
 
 pub returns : goal.returns
