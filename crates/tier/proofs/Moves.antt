@@ -1,16 +1,13 @@
 -- What the calls of a pile's parts come to: a part that refuses is as it was, and a block that is not held need not be taken out.
-use Rattle.std.proofs.Common.{◌≡◌, ℕ, [], true, false, is_some, Some, None, Ok, Err, Option, Result, sym, refl, ap, ◌∙◌, arith}
-use Rattle.std.specs.Result.{is_ok}
+use Rattle.std.proofs.Common.{◌≡◌, ℕ, [], true, is_some, Some, None, Ok, Err, Option, Result, sym, refl, ap, ◌∙◌, arith}
 use Rattle.device.specs.Device.{after}
-use Rattle.device.specs.Laws.{device-after}
 use Rattle.parts.specs.declared.mark.Mark.{Mark}
 use Rattle.parts.specs.declared.line.Line.{Line}
 use Rattle.parts.specs.declared.refusal.Refusal.{Refusal}
-use Rattle.parts.specs.declared.refusal.Refusal.TheVariants.{AlreadyHeld, NotHeld}
-use Rattle.tier.specs.Meaning.{TierMeaning, TierCall, put, take, Holding, depth_of, look_of, out_of, if_held, put_answer, held_answer, Lawful}
-use Rattle.tier.specs.Pile.{parts, first, pile_view, to_shown, pile_step, pile_depth, pile}
-use Rattle.tier.specs.Holdings.{held_none}
-use Rattle.tier.specs.PileLaws.{stays, at, pile-lawful}
+use Rattle.parts.specs.declared.refusal.Refusal.TheVariants.{AlreadyHeld}
+use Rattle.tier.specs.Meaning.{TierMeaning, put, take, Holding, depth_of, look_of, out_of, if_held, put_answer, Lawful}
+use Rattle.tier.specs.Pile.{first, pile}
+use Rattle.tier.specs.PileLaws.{pile-lawful}
 
 -- the put of a block that was taken out is not refused
 pub put-taken : (m m' : TierMeaning) (n : ℕ) (k : Mark) (s : ℕ) (r : Result (Option Line) Refusal)
@@ -52,20 +49,3 @@ pub put-above : (u l u' : TierMeaning) (n : ℕ) (k : Mark) (s : ℕ) (e : Refus
 put-above u l u' n k s e hu hl p q =
     let held = first-held (depth_of u) (look_of u n) (look_of l n) (refused-held u n k s hu e p) in
     ap (λ x. pile x l) (q ∙ put-refused u n k s hu e p) ∙ sym ((pile-lawful u l hu hl []).put_held n k s held)
-
--- a change or a touch that the upper refuses goes to the lower
-refused-free : (u : TierMeaning) (n : ℕ) (r : Result (Unit {0}) Refusal) → r ≡ held_answer u n → is_ok r ≡ false → look_of u n ≡ None
-refused-free u n r e f = go (look_of u n) e
-  where
-    go : (o : Option Holding) → r ≡ if_held o (Ok tt) (Err NotHeld) → o ≡ None
-    go None q = refl
-    go (Some h) q = let z : ◌≡◌ {A = ℕ} 0 1 = cc in absurd (omega arith)
-
-pub shown-below : (u l u' l' : TierMeaning) (n : ℕ) (c : TierCall) (r : Result (Unit {0}) Refusal)
-    → pile_step (parts u l) c ≡ to_shown (parts u l) n c → (look_of u n ≡ None → after u c ≡ u)
-    → r ≡ held_answer u n → is_ok r ≡ false → u' ≡ after u c → l' ≡ after l c → pile u' l' ≡ after (pile u l) c
-shown-below u l u' l' n c r step free e f p q =
-    let none = refused-free u n r e f in
-    let same : to_shown (parts u l) n c ≡ parts u (after l c) = held_none (look_of u n) _ _ none in
-    ap (λ x. pile x l') (p ∙ free none) ∙ ap (pile u) q
-    ∙ sym (ap at (step ∙ same)) ∙ device-after pile_depth pile_view pile_step stays (parts u l) c

@@ -101,21 +101,20 @@ impl<U: Tier, L: Tier> Tier for Pile<U, L> {
         Some(deepened(depth, below?))
     }
 
-    // The upper refuses a block that it does not hold, and is then as it was: no lookup comes first.
     fn change(&mut self, line: Line) -> Result<(), Refusal> {
-        let changed = self.upper.change(line);
-        if changed.is_ok() {
-            return changed;
+        if self.upper.look(line.block).is_some() {
+            self.upper.change(line)
+        } else {
+            self.lower.change(line)
         }
-        self.lower.change(line)
     }
 
     fn touch(&mut self, block: u16) -> Result<(), Refusal> {
-        let touched = self.upper.touch(block);
-        if touched.is_ok() {
-            return touched;
+        if self.upper.look(block).is_some() {
+            self.upper.touch(block)
+        } else {
+            self.lower.touch(block)
         }
-        self.lower.touch(block)
     }
 
     fn clear(&mut self) {
