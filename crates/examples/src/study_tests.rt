@@ -1,5 +1,4 @@
 //! The nine calls over a lent table, and a study that is refused. The functions are generic over the row, which makes their check shorter.
-use direct::direct::Direct;
 use lent_study::simulate_in_table;
 use machine::two_cores;
 use memory::cell::{Cell, State};
@@ -8,8 +7,6 @@ use protocol::call::Call;
 use protocol::refusal::Refusal;
 use protocol::weights::Prices;
 use row::Row;
-use row::one_core::Core;
-use std::alloc::{AllocError, Global};
 use std::process::Abort;
 use std::test::Fail;
 use study::quote::Quote;
@@ -24,12 +21,6 @@ const NEW: Cell = Cell {
     state: State::Valid,
     stamp: 0,
 };
-
-// A core with one line.
-fn one(heap: Global) -> Result<Core<Direct>, AllocError> {
-    let tier = Direct::new(heap, 1).map_err(|_| AllocError)?;
-    Ok(Core::new(tier))
-}
 
 // A call, and what has to become of it.
 fn turn(call: Call, answer: Result<Answer, Refusal>, total: u64) -> Turn {
@@ -97,6 +88,6 @@ fn too_dear<R: Row + Drop>(rt: &impl Abort, row: R) {
 #[test]
 fn lent_tables(rt: HostRuntime) -> Result<(), Fail> {
     nine(&rt, two_cores(rt.alloc())?);
-    too_dear(&rt, one(rt.alloc())?);
+    too_dear(&rt, two_cores(rt.alloc())?);
     Ok(())
 }
