@@ -1,7 +1,7 @@
 //! Damages: small edits of a text, of every sort that a reader has to notice or to bear.
 
 use crate::random::Random;
-use std::alloc::{AllocError, Global};
+use crate::reference::paper::Paper;
 
 // What is put in, mostly in place of a number or beside one.
 static PIECES: [&[u8]; 39] = [
@@ -60,44 +60,42 @@ fn around(text: &[u8], place: usize, is_field: bool) -> (usize, usize) {
     (start, text.len())
 }
 
-/// The text with one damage.
-pub(crate) fn damaged(
-    heap: Global,
-    random: &mut Random,
-    text: &[u8],
-) -> Result<Vec<u8>, AllocError> {
-    let place = random.below(text.len());
-    let (line, line_end) = around(text, place, false);
-    let (field, field_end) = around(text, place, true);
-    let bytes = text.get(line..line_end.saturating_add(1)).unwrap_or(b"");
-    let piece = PIECES[random.below(39) % 39];
-    let (start, end, with) = match random.below(13) {
-        0 => (place, place.saturating_add(1), piece),
-        1 => (place, place, piece),
-        2 => (line, line, piece),
-        3 => (line_end, line_end, piece),
-        4 => (field, field, piece),
-        5 => (field_end, field_end, piece),
-        6 => (line, line, bytes),
-        7 => (line, line_end.saturating_add(1), piece),
-        8 => (0, 0, bytes),
-        9 => (text.len(), text.len(), bytes),
-        10 => (place, text.len(), piece),
-        _ => (field, field_end, piece),
-    };
-    spliced(heap, text, start, end, with)
+// From where to where a damage of a sort lies, by the place, its line, its field and the text's length.
+fn span(
+    sort: usize,
+    place: usize,
+    line: (usize, usize),
+    field: (usize, usize),
+    length: usize,
+) -> (usize, usize) {
+    match sort {
+        0 => (place, place.saturating_add(1)),
+        1 => (place, place),
+        2 | 6 => (line.0, line.0),
+        3 => (line.1, line.1),
+        4 => (field.0, field.0),
+        5 => (field.1, field.1),
+        7 => (line.0, line.1.saturating_add(1)),
+        8 => (0, 0),
+        9 => (length, length),
+        10 => (place, length),
+        _ => field,
+    }
 }
 
-// The text with other bytes from a place to a place.
-fn spliced(
-    heap: Global,
-    text: &[u8],
-    start: usize,
-    end: usize,
-    with: &[u8],
-) -> Result<Vec<u8>, AllocError> {
-    let mut edited = Vec::from_slice(heap, text.get(..start).unwrap_or(text))?;
-    edited.extend_from_slice(with)?;
-    edited.extend_from_slice(text.get(end..).unwrap_or(b""))?;
-    Ok(edited)
+/// Writes the text with one damage: a piece is put in, or in some sorts the line once more.
+pub(crate) fn damage(edited: &mut Paper, random: &mut Random, text: &[u8]) {
+    let place = random.below(text.len());
+    let line = around(text, place, false);
+    let field = around(text, place, true);
+    let piece = PIECES[random.below(39) % 39];
+    let sort = random.below(13);
+    let (start, end) = span(sort, place, line, field, text.len());
+    edited.put(text.get(..start).unwrap_or(text));
+    if let 6 | 8 | 9 = sort {
+        edited.put(text.get(line.0..line.1.saturating_add(1)).unwrap_or(b""));
+    } else {
+        edited.put(piece);
+    }
+    edited.put(text.get(end..).unwrap_or(b""));
 }

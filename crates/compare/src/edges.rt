@@ -1,7 +1,7 @@
 //! Texts at the edges of the format, written out or made to measure.
 
+use crate::reference::paper::Paper;
 use crate::script::write_weights;
-use std::alloc::{AllocError, Global};
 
 /// Whole texts, each at some edge: what may stand first, how many fields, what a number is, which references are placed.
 pub(crate) static TEXTS: [&[u8]; 50] = [
@@ -58,44 +58,35 @@ pub(crate) static TEXTS: [&[u8]; 50] = [
 ];
 
 // A text that repeats a piece between its head and its end.
-fn filled(
-    heap: Global,
-    head: &[u8],
-    piece: &[u8],
-    count: usize,
-    end: &[u8],
-) -> Result<Vec<u8>, AllocError> {
-    let mut text = Vec::from_slice(heap, head)?;
+fn fill(text: &mut Paper, head: &[u8], piece: &[u8], count: usize, end: &[u8]) {
+    text.put(head);
     for _ in 0..count {
-        text.extend_from_slice(piece)?;
+        text.put(piece);
     }
-    text.extend_from_slice(end)?;
-    Ok(text)
+    text.put(end);
 }
 
 /// A good scenario of just so many bytes, from 100 on.
-pub(crate) fn measured(heap: Global, bytes: usize) -> Result<Vec<u8>, AllocError> {
+pub(crate) fn measured(text: &mut Paper, bytes: usize) {
     let head = b"weights\t1\t2\t3\t4\t5\nref\t9\t4\n";
     let longer = b"resume\t0\nresume\t0\nresume\t0\nresume\t0\nresume\t0\nresume\t0\nresume\t0\n";
     let rest = bytes.saturating_sub(head.len());
     // steps of eight bytes, and so many of nine as are left over
     let end = longer.get(..rest % 8 * 9).unwrap_or(b"");
     let count = rest.saturating_sub(end.len()) / 8;
-    filled(heap, head, b"fetch\t1\n", count, end)
+    fill(text, head, b"fetch\t1\n", count, end);
 }
 
 /// A scenario with a line of so many bytes before its line feed, all but six of them digits.
-pub(crate) fn long_line(heap: Global, bytes: usize) -> Result<Vec<u8>, AllocError> {
+pub(crate) fn long_line(text: &mut Paper, bytes: usize) {
     let head = b"weights\t0\t0\t0\t0\t0\nfetch\t";
-    filled(heap, head, b"1", bytes.saturating_sub(6), b"\n")
+    fill(text, head, b"1", bytes.saturating_sub(6), b"\n");
 }
 
 /// A scenario with one weight exchanged.
-pub(crate) fn weighed(heap: Global, place: usize, weight: usize) -> Result<Vec<u8>, AllocError> {
+pub(crate) fn weighed(text: &mut Paper, place: usize, weight: usize) {
     let mut weights = [1_000; 5];
     weights[place % 5] = weight;
-    let mut text = String::new(heap);
-    write_weights(&mut text, weights)?;
-    text.push_str("ref\t3\t3\nwrite\t0\t3\nfetch\t0\nresume\t0\nread\t0\t3\n")?;
-    Ok(text.into_bytes())
+    write_weights(text, weights);
+    text.put(b"ref\t3\t3\nwrite\t0\t3\nfetch\t0\nresume\t0\nread\t0\t3\n");
 }

@@ -1,14 +1,14 @@
 //! The families of cases, and how many cases each has.
 
-use crate::damage::damaged;
+use crate::damage::damage;
 use crate::edges::{TEXTS, long_line, measured, weighed};
 use crate::machines::{KINDS, Kind};
 use crate::random::Random;
+use crate::reference::paper::Paper;
 use crate::score::{Score, Setting};
-use crate::script::drawn;
-use crate::trial::{Asked, Sort};
-use std::alloc::{AllocError, Global};
-use std::io;
+use crate::script::draw;
+use crate::trial::Sort;
+use std::io::Error;
 
 // A kind of machine, what it is called, and how many cores it has.
 type Named = (Kind, &'static str, usize);
@@ -114,103 +114,103 @@ static TABLES: [(Kind, &str, usize, usize); 16] = [
     (Kind::Mixed, "three mixed cores of 8,192 cells", 8_192, 256),
 ];
 
-// One to three damages of what is asked.
-fn spoil(heap: Global, random: &mut Random, asked: &mut Asked) -> Result<(), AllocError> {
-    let texts = if let Sort::Pair = asked.sort { 3 } else { 1 };
+// One to three damages of what is asked, each written on a spare paper first.
+fn spoil(texts: &mut [Paper; 3], spare: &mut Paper, random: &mut Random, sort: Sort) {
+    let count = if let Sort::Pair = sort { 3 } else { 1 };
     for _ in 0..=random.below(3) {
-        let text = &mut asked.texts[random.below(texts) % 3];
-        *text = damaged(heap, random, text.as_slice())?;
+        let text = &mut texts[random.below(count) % 3];
+        spare.clear();
+        damage(spare, random, text.bytes());
+        text.clear();
+        text.put(spare.bytes());
     }
-    Ok(())
 }
 
-fn drawn_on(rt: &HostRuntime, score: &mut Score, named: Named, family: Family) -> io::Result<()> {
+fn drawn_on(rt: &HostRuntime, score: &mut Score, named: Named, family: Family) {
     let (kind, name, cores) = named;
-    let heap = rt.alloc();
     for seed in 0..family.cases {
         let mut random = Random::new(seed);
-        let mut asked = drawn(heap, &mut random, cores, family.steps, family.sort)?;
+        let trial = &mut score.trial;
+        trial.ask(family.sort);
+        draw(
+            &mut trial.texts,
+            &mut random,
+            cores,
+            family.steps,
+            family.sort,
+        );
         if family.is_damaged {
-            spoil(heap, &mut random, &mut asked)?;
+            spoil(&mut trial.texts, &mut trial.spare, &mut random, family.sort);
         }
-        score.judge(rt, Setting::new(kind, seed), asked)?;
+        score.judge(rt, Setting::new(kind, seed));
     }
-    score.close(rt, family.title, name)
+    score.close(rt, family.title, name);
 }
 
-// A text as a scenario, as a schedule and a placement, or without its first line as a placement; or just the steps.
-fn formed(heap: Global, text: &[u8], form: usize) -> Result<Asked, AllocError> {
-    let (first, a, b, sort): (&[u8], &[u8], &[u8], Sort) = match form {
-        0 => (text, b"", b"", Sort::Scenario),
-        1 => (text, b"ref\t7\t1\nref\t8\t1\n", text, Sort::Pair),
-        2 => {
-            let rest = text.get(18..).unwrap_or(b"");
-            (b"weights\t1\t1\t1\t1\t1001\n", rest, b"", Sort::Pair)
-        }
-        _ => (b"", b"", b"", Sort::Million),
-    };
-    Ok(Asked {
-        texts: [
-            Vec::from_slice(heap, first)?,
-            Vec::from_slice(heap, a)?,
-            Vec::from_slice(heap, b)?,
-        ],
-        sort,
-    })
+// A case of these texts.
+fn case(rt: &HostRuntime, score: &mut Score, setting: Setting, sort: Sort, texts: [&[u8]; 3]) {
+    let [first, a, b] = texts;
+    score.trial.ask(sort);
+    score.trial.texts[0].put(first);
+    score.trial.texts[1].put(a);
+    score.trial.texts[2].put(b);
+    score.judge(rt, setting);
 }
 
-// A text in each form.
-fn in_each_form(
-    rt: &HostRuntime,
-    score: &mut Score,
-    setting: Setting,
-    text: &[u8],
-) -> io::Result<()> {
-    for form in 0..3 {
-        score.judge(rt, setting, formed(rt.alloc(), text, form)?)?;
-    }
-    Ok(())
+// A text as a scenario, as a schedule and a placement, or without its first line as a placement.
+fn in_each_form(rt: &HostRuntime, score: &mut Score, setting: Setting, text: &[u8]) {
+    let rest = text.get(18..).unwrap_or(b"");
+    let placed = b"ref\t7\t1\nref\t8\t1\n";
+    let costly = b"weights\t1\t1\t1\t1\t1001\n";
+    case(rt, score, setting, Sort::Scenario, [text, b"", b""]);
+    case(rt, score, setting, Sort::Pair, [text, placed, text]);
+    case(rt, score, setting, Sort::Pair, [costly, rest, b""]);
 }
 
-fn edges(rt: &HostRuntime, score: &mut Score, setting: Setting, name: &str) -> io::Result<()> {
+fn edges(rt: &HostRuntime, score: &mut Score, setting: Setting, name: &str) {
     for text in &TEXTS {
-        in_each_form(rt, score, setting, text)?;
+        in_each_form(rt, score, setting, text);
     }
-    score.close(rt, "texts at the edges of the format on ", name)
+    score.close(rt, "texts at the edges of the format on ", name);
 }
 
 // The text of a case at a limit: of about 65,536 bytes, or with a line of about 80, or with a weight of about 1,000.
-fn limit(heap: Global, case: usize) -> Result<Vec<u8>, AllocError> {
+fn limit(text: &mut Paper, case: usize) {
     const WEIGHTS: [usize; 5] = [0, 999, 1_000, 1_001, 65_535];
     match case {
-        0..5 => measured(heap, case.saturating_add(65_534)),
-        5..15 => long_line(heap, case.saturating_add(70)),
-        _ => weighed(heap, case / 5, WEIGHTS[case % 5]),
+        0..5 => measured(text, case.saturating_add(65_534)),
+        5..15 => long_line(text, case.saturating_add(70)),
+        _ => weighed(text, case / 5, WEIGHTS[case % 5]),
     }
 }
 
-fn limits(rt: &HostRuntime, score: &mut Score, setting: Setting, name: &str) -> io::Result<()> {
+fn limits(rt: &HostRuntime, score: &mut Score, setting: Setting, name: &str) {
+    let mut text = Paper::new(rt.alloc());
     for case in 0..40 {
-        let text = limit(rt.alloc(), case)?;
-        in_each_form(rt, score, setting, text.as_slice())?;
+        text.clear();
+        limit(&mut text, case);
+        match text.whole() {
+            Ok(text) => in_each_form(rt, score, setting, text),
+            Err(error) => score.fail(Error::from(error)),
+        }
     }
-    score.close(rt, "lengths and weights at their limits on ", name)
+    score.close(rt, "lengths and weights at their limits on ", name);
 }
 
-fn on_machine(rt: &HostRuntime, score: &mut Score, named: Named) -> io::Result<()> {
+fn on_machine(rt: &HostRuntime, score: &mut Score, named: Named) {
     for family in &DRAWN {
-        drawn_on(rt, score, named, *family)?;
+        drawn_on(rt, score, named, *family);
     }
     let (kind, name, _) = named;
     let setting = Setting::new(kind, 5);
-    edges(rt, score, setting, name)?;
-    limits(rt, score, setting, name)
+    edges(rt, score, setting, name);
+    limits(rt, score, setting, name);
 }
 
 /// Runs every family.
-pub(crate) fn run(rt: &HostRuntime, score: &mut Score) -> io::Result<()> {
+pub(crate) fn run(rt: &HostRuntime, score: &mut Score) {
     for named in &KINDS {
-        on_machine(rt, score, *named)?;
+        on_machine(rt, score, *named);
     }
     for (kind, name, cells, entries) in &TABLES {
         let setting = Setting {
@@ -219,9 +219,9 @@ pub(crate) fn run(rt: &HostRuntime, score: &mut Score) -> io::Result<()> {
             entries: *entries,
             seed: 9,
         };
-        edges(rt, score, setting, name)?;
+        edges(rt, score, setting, name);
     }
-    let asked = formed(rt.alloc(), b"", 3)?;
-    score.judge(rt, Setting::new(Kind::OneLine, 0), asked)?;
-    score.close(rt, "a million accepted steps, and the next ones", "")
+    score.trial.ask(Sort::Million);
+    score.judge(rt, Setting::new(Kind::OneLine, 0));
+    score.close(rt, "a million accepted steps, and the next ones", "");
 }

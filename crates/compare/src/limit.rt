@@ -1,15 +1,15 @@
 //! A study of more steps than are accepted, and than a text can hold.
 
+use crate::reference::paper::Paper;
 use crate::reference::plain::Machine;
 use crate::reference::steps::{Call as Again, Kind, Study};
 use crate::reference::{tell_quote, tell_turn};
 use memory::Memory;
-use memory::cell::Cell;
 use protocol::call::Call;
 use protocol::weights::Prices;
 use report::line::Line;
 use row::Row;
-use std::alloc::{AllocError, Global};
+use std::alloc::AllocError;
 use study::stages::Draft;
 
 const PRICES: Prices = Prices {
@@ -36,6 +36,10 @@ const TURNS: u32 = 1_000_020;
 // The turns from this on are told.
 const TOLD: u32 = 999_980;
 
+fn tell(out: &mut Vec<u8>, line: Line) -> bool {
+    out.extend_from_slice(line.bytes()).is_ok()
+}
+
 /// Plays a million steps and twenty more, which are refused, by the simulator, and tells of the last and of the quote.
 pub(crate) fn play<R: Row + Drop, M: Memory + Drop>(
     row: R,
@@ -47,35 +51,33 @@ pub(crate) fn play<R: Row + Drop, M: Memory + Drop>(
     let Ok(mut run) = draft.open() else {
         return Ok(());
     };
+    let mut is_written = true;
     for number in 0..TURNS {
         let (call, _, _) = STEPS[number as usize % 6];
         let played = run.take_turn(call);
         if number >= TOLD {
-            out.extend_from_slice(Line::of_step(number, &played).bytes())?;
+            is_written &= tell(out, Line::of_step(number, &played));
         }
     }
-    out.extend_from_slice(Line::of_quote(&run.settle().quote).bytes())
+    is_written &= tell(out, Line::of_quote(&run.settle().quote));
+    if is_written { Ok(()) } else { Err(AllocError) }
 }
 
-/// The same by the reference; gives back the cells.
-pub(crate) fn replay(
-    heap: Global,
-    machine: Machine,
-    out: &mut String,
-) -> Result<Vec<Cell>, AllocError> {
-    let mut study = Study::new(heap, machine)?;
+/// The same by the reference.
+pub(crate) fn replay(machine: Machine, out: &mut Paper) {
+    let mut study = Study::new(machine);
     study.open([1_000; 5]);
     for number in 0..TURNS {
         let (_, kind, block) = STEPS[number as usize % 6];
-        let turn = study.step(Again {
+        let call = Again {
             kind,
             core: 0,
             block,
-        });
+        };
+        let turn = study.step(call);
         if number >= TOLD {
-            tell_turn(out, "", number as usize, turn)?;
+            tell_turn(out, "", number as usize, turn);
         }
     }
-    tell_quote(out, "", &study)?;
-    Ok(study.into_cells())
+    tell_quote(out, "", &study);
 }

@@ -52,12 +52,33 @@ pub(crate) static MCSIM: [(usize, Level); 4] = [(0, D(2)), (0, S(2, 2)), (1, D(2
 
 type Made<T> = Result<T, AllocError>;
 
+/// At most ten of something.
+#[derive(Drop)]
+pub(crate) struct Few<T> {
+    items: [T; 10],
+    count: usize,
+}
+
+impl<T: Copy> Few<T> {
+    // Some, and a blank in the places that are left.
+    fn of(blank: T, some: &[T]) -> Few<T> {
+        let mut items = [blank; 10];
+        for (place, item) in items.iter_mut().zip(some) {
+            *place = *item;
+        }
+        Few {
+            items,
+            count: some.len(),
+        }
+    }
+
+    pub(crate) fn list(&self) -> &[T] {
+        self.items.get(..self.count).unwrap_or(&self.items)
+    }
+}
+
 /// The levels of a kind.
-pub(crate) fn levels_of(
-    heap: Global,
-    kind: Kind,
-    (size, other): (usize, usize),
-) -> Made<Vec<(usize, Level)>> {
+pub(crate) fn levels_of(kind: Kind, (size, other): (usize, usize)) -> Few<(usize, Level)> {
     let lines = S(2, size);
     let row = [
         (0, lines),
@@ -82,14 +103,16 @@ pub(crate) fn levels_of(
         (1, D(1)),
         (1, Q(1)),
     ];
-    match kind {
-        Kind::Mcsim | Kind::Nothing => Vec::from_slice(heap, &MCSIM),
-        Kind::OneLine => Vec::from_slice(heap, &[(0, D(1))]),
-        Kind::Mixed => Vec::from_slice(heap, &[(0, D(size)), (1, R(other)), (2, Q(size))]),
-        Kind::Deep => Vec::from_slice(heap, &deep),
-        Kind::Eight => Vec::from_slice(heap, row.get(..8).unwrap_or(&row)),
-        Kind::Nine => Vec::from_slice(heap, &row),
-    }
+    let mixed = [(0, D(size)), (1, R(other)), (2, Q(size))];
+    let some: &[(usize, Level)] = match kind {
+        Kind::Mcsim | Kind::Nothing => &MCSIM,
+        Kind::OneLine => &[(0, D(1))],
+        Kind::Mixed => &mixed,
+        Kind::Deep => &deep,
+        Kind::Eight => row.get(..8).unwrap_or(&row),
+        Kind::Nine => &row,
+    };
+    Few::of((0, D(1)), some)
 }
 
 // Of so many cells the first part of two tables takes these.
@@ -103,24 +126,28 @@ fn split(kind: Kind, cells: usize) -> usize
 }
 
 /// The parts of the memory of a kind over so many cells.
-pub(crate) fn parts_of(heap: Global, kind: Kind, cells: usize) -> Made<Vec<Part>> {
+pub(crate) fn parts_of(kind: Kind, cells: usize) -> Few<Part> {
     let first = split(kind, cells);
     let rest = cells.saturating_sub(first);
-    match kind {
-        Kind::OneLine => Vec::from_slice(heap, &[Table(cells), Stretch(3, 9, 0)]),
-        Kind::Nothing => Vec::from_slice(heap, &[Table(cells), Stretch(99, 9, 0)]),
-        Kind::Mcsim | Kind::Deep => Vec::from_slice(heap, &[Table(cells)]),
-        Kind::Mixed => {
-            let most = 4_294_967_295;
-            let parts = [Table(first), Table(rest), Turns(0, 1), Stretch(2, most, 2)];
-            Vec::from_slice(heap, &parts)
-        }
-        Kind::Eight | Kind::Nine => {
-            let even = [Table(first), Stretch(1, 6, 0)];
-            let [a, b] = even;
-            Vec::from_slice(heap, &[a, b, Table(rest), Stretch(0, 5, 2), Turns(1, 3)])
-        }
-    }
+    let most = 4_294_967_295;
+    let one = [Table(cells), Stretch(3, 9, 0)];
+    let beyond = [Table(cells), Stretch(99, 9, 0)];
+    let mixed = [Table(first), Table(rest), Turns(0, 1), Stretch(2, most, 2)];
+    let in_turn = [
+        Table(first),
+        Stretch(1, 6, 0),
+        Table(rest),
+        Stretch(0, 5, 2),
+        Turns(1, 3),
+    ];
+    let some: &[Part] = match kind {
+        Kind::OneLine => &one,
+        Kind::Nothing => &beyond,
+        Kind::Mcsim | Kind::Deep => one.get(..1).unwrap_or(&one),
+        Kind::Mixed => &mixed,
+        Kind::Eight | Kind::Nine => &in_turn,
+    };
+    Few::of(Table(0), some)
 }
 
 fn direct(heap: Global, lines: usize) -> Made<Direct> {
@@ -139,66 +166,98 @@ fn sets(heap: Global, count: usize, ways: usize) -> Made<SetAssociative> {
     SetAssociative::new(heap, count, ways).or_else(BuildError::into_tier)
 }
 
-// A row over a stretch of one table.
-fn stretched<R: Row + Drop>(
+// A row over a stretch of a memory.
+fn stretched<R: Row + Drop, M: Memory + Drop>(
+    heap: Global,
+    trial: &mut Trial,
+    row: Made<R>,
+    below: M,
+    start: u32,
+    length: u32,
+) -> Made<()> {
+    let memory = Window::new(below, start, length);
+    run(heap, trial, row?, memory)
+}
+
+// A row over two memories in turn.
+fn alternate<R: Row + Drop, M: Memory + Drop>(
+    heap: Global,
+    trial: &mut Trial,
+    row: Made<R>,
+    even: M,
+    odd: M,
+) -> Made<()> {
+    let memory = Interleaved::new(even, odd);
+    run(heap, trial, row?, memory)
+}
+
+// A row over windows of two tables in turn.
+fn in_turn<R: Row + Drop>(
     heap: Global,
     trial: &mut Trial,
     row: Made<R>,
     cells: &mut [Cell],
-    start: u32,
-    length: u32,
 ) -> Made<()> {
-    let memory = Window::new(Flat::over(cells), start, length);
-    run(heap, trial, row?, memory)
+    let first = split(Kind::Eight, cells.len());
+    let (even, odd) = cells.split_at_mut(first);
+    let even = Window::new(Flat::over(even), 1, 6);
+    let odd = Window::new(Flat::over(odd), 0, 5);
+    alternate(heap, trial, row, even, odd)
 }
 
-// Three cores.
-fn three<A: Tier + Drop, B: Tier + Drop, C: Tier + Drop, M: Memory + Drop>(
+// A row over a window of two tables in turn.
+fn woven<R: Row + Drop>(
     heap: Global,
     trial: &mut Trial,
-    a: Made<A>,
-    b: Made<B>,
-    c: Made<C>,
-    memory: M,
-) -> Made<()> {
-    let row = Pair::new(Core::new(a?), Pair::new(Core::new(b?), Core::new(c?)));
-    run(heap, trial, row, memory)
-}
-
-fn mixed(
-    heap: Global,
-    trial: &mut Trial,
+    row: Made<R>,
     cells: &mut [Cell],
-    (size, other): (usize, usize),
 ) -> Made<()> {
     let first = split(Kind::Mixed, cells.len());
     let (even, odd) = cells.split_at_mut(first);
     let whole = Interleaved::new(Flat::over(even), Flat::over(odd));
-    let memory = Window::new(whole, 2, u32::MAX);
-    let a = direct(heap, size);
-    let b = recent(heap, other);
-    three(heap, trial, a, b, queue(heap, size), memory)
+    stretched(heap, trial, row, whole, 2, u32::MAX)
 }
 
-fn one_line(heap: Global) -> Made<Core<Direct>> {
-    Ok(Core::new(direct(heap, 1)?))
+fn core<T: Tier + Drop>(tier: Made<T>) -> Made<Core<T>> {
+    Ok(Core::new(tier?))
 }
 
-fn two(heap: Global, lines: usize, more: usize) -> Made<Pile<Direct, Queue>> {
-    Ok(Pile::new(direct(heap, lines)?, queue(heap, more)?))
+fn beside<R: Row + Drop, S: Row + Drop>(first: Made<R>, second: Made<S>) -> Made<Pair<R, S>> {
+    let first = first?;
+    Ok(Pair::new(first, second?))
 }
+
+fn three<A: Tier + Drop, B: Tier + Drop, C: Tier + Drop>(
+    a: Made<A>,
+    b: Made<B>,
+    c: Made<C>,
+) -> Made<Pair<Core<A>, Pair<Core<B>, Core<C>>>> {
+    beside(core(a), beside(core(b), core(c)))
+}
+
+type TwoLevels = Pile<Direct, Queue>;
+
+fn two_levels(heap: Global, lines: usize, more: usize) -> Made<TwoLevels> {
+    let first = direct(heap, lines)?;
+    Ok(Pile::new(first, queue(heap, more)?))
+}
+
+type Three<T, U> = (Made<T>, Made<U>, Made<T>);
 
 // Three tiers, which make five levels if the first and the last have two.
-fn deep<T: Tier + Drop, U: Tier + Drop>(
-    first: Made<T>,
-    second: Made<U>,
-    third: Made<T>,
-) -> Made<Core<Pile<T, Pile<U, T>>>> {
+fn nested<T: Tier + Drop, U: Tier + Drop>(tiers: Three<T, U>) -> Made<Core<Pile<T, Pile<U, T>>>> {
+    let (first, second, third) = tiers;
     let lower = Pile::new(second?, third?);
     Ok(Core::new(Pile::new(first?, lower)))
 }
 
-// Two rows over one table.
+type Two = Pair<Core<SetAssociative>, Core<SetAssociative>>;
+
+fn two(heap: Global, ways: usize) -> Made<Two> {
+    beside(core(sets(heap, 2, ways)), core(sets(heap, 2, ways)))
+}
+
+// Two rows over the whole of one table.
 fn side_by_side<R: Row + Drop>(
     heap: Global,
     trial: &mut Trial,
@@ -206,32 +265,11 @@ fn side_by_side<R: Row + Drop>(
     second: Made<R>,
     cells: &mut [Cell],
 ) -> Made<()> {
-    run(heap, trial, beside(first, second)?, Flat::over(cells))
+    let row = beside(first, second);
+    run(heap, trial, row?, Flat::over(cells))
 }
 
-fn core(heap: Global, ways: usize) -> Made<Core<SetAssociative>> {
-    Ok(Core::new(sets(heap, 2, ways)?))
-}
-
-fn beside<R: Row + Drop>(first: Made<R>, second: Made<R>) -> Made<Pair<R, R>> {
-    Ok(Pair::new(first?, second?))
-}
-
-type Two = Pair<Core<SetAssociative>, Core<SetAssociative>>;
-
-fn four(heap: Global, ways: usize) -> Made<Pair<Two, Two>> {
-    let first = beside(core(heap, ways), core(heap, ways));
-    beside(first, beside(core(heap, ways), core(heap, ways)))
-}
-
-fn in_turn<'a>(cells: &'a mut [Cell]) -> Interleaved<Window<Flat<'a>>, Window<Flat<'a>>> {
-    let first = split(Kind::Eight, cells.len());
-    let (even, odd) = cells.split_at_mut(first);
-    let even = Window::new(Flat::over(even), 1, 6);
-    Interleaved::new(even, Window::new(Flat::over(odd), 0, 5))
-}
-
-// Two rows, over two windows in turn, and perhaps one core more.
+// Two rows, and perhaps one core of so many lines more, over windows of two tables in turn.
 fn many<R: Row + Drop>(
     heap: Global,
     trial: &mut Trial,
@@ -240,14 +278,99 @@ fn many<R: Row + Drop>(
     cells: &mut [Cell],
     ninth: Option<usize>,
 ) -> Made<()> {
-    let row = beside(first, second)?;
+    let row = beside(first, second);
     match ninth {
-        None => run(heap, trial, row, in_turn(cells)),
+        None => in_turn(heap, trial, row, cells),
         Some(lines) => {
-            let core = Core::new(direct(heap, lines)?);
-            run(heap, trial, Pair::new(row, core), in_turn(cells))
+            let row = beside(row, core(direct(heap, lines)));
+            in_turn(heap, trial, row, cells)
         }
     }
+}
+
+// Two cores of three tiers each.
+fn two_nested<T: Tier + Drop, U: Tier + Drop>(
+    heap: Global,
+    trial: &mut Trial,
+    first: Three<T, U>,
+    second: Three<T, U>,
+    cells: &mut [Cell],
+) -> Made<()> {
+    side_by_side(heap, trial, nested(first), nested(second), cells)
+}
+
+// Four rows, and perhaps one core more.
+fn four<R: Row + Drop>(
+    heap: Global,
+    trial: &mut Trial,
+    rows: (Made<R>, Made<R>, Made<R>, Made<R>),
+    cells: &mut [Cell],
+    ninth: Option<usize>,
+) -> Made<()> {
+    let (a, b, c, d) = rows;
+    many(heap, trial, beside(a, b), beside(c, d), cells, ninth)
+}
+
+// Each of the following tries the machines of one sort of row. A function that names many sorts, or deep ones, is dear to check.
+
+fn on_two_cores(heap: Global, trial: &mut Trial, cells: &mut [Cell], start: u32) -> Made<()> {
+    stretched(
+        heap,
+        trial,
+        two_cores(heap),
+        Flat::over(cells),
+        start,
+        u32::MAX,
+    )
+}
+
+fn on_one_line(heap: Global, trial: &mut Trial, cells: &mut [Cell]) -> Made<()> {
+    stretched(heap, trial, core(direct(heap, 1)), Flat::over(cells), 3, 9)
+}
+
+fn on_deep(
+    heap: Global,
+    trial: &mut Trial,
+    cells: &mut [Cell],
+    (size, other): (usize, usize),
+) -> Made<()> {
+    let first = (
+        two_levels(heap, 1, size),
+        sets(heap, 1, 2),
+        two_levels(heap, 2, 1),
+    );
+    let second = (
+        two_levels(heap, size, 2),
+        sets(heap, 2, other),
+        two_levels(heap, 1, 1),
+    );
+    two_nested(heap, trial, first, second, cells)
+}
+
+fn on_mixed(
+    heap: Global,
+    trial: &mut Trial,
+    cells: &mut [Cell],
+    (size, other): (usize, usize),
+) -> Made<()> {
+    let row = three(direct(heap, size), recent(heap, other), queue(heap, size));
+    woven(heap, trial, row, cells)
+}
+
+fn on_many(
+    heap: Global,
+    trial: &mut Trial,
+    cells: &mut [Cell],
+    size: usize,
+    ninth: Option<usize>,
+) -> Made<()> {
+    let rows = (
+        two(heap, size),
+        two(heap, size),
+        two(heap, size),
+        two(heap, size),
+    );
+    four(heap, trial, rows, cells, ninth)
 }
 
 /// Tries a machine of a kind on the simulator.
@@ -256,29 +379,15 @@ pub(crate) fn try_on(
     kind: Kind,
     trial: &mut Trial,
     cells: &mut [Cell],
-    (size, other): (usize, usize),
+    sizes: (usize, usize),
 ) -> Made<()> {
     match kind {
-        Kind::Mcsim => stretched(heap, trial, two_cores(heap), cells, 0, u32::MAX),
-        Kind::Nothing => stretched(heap, trial, two_cores(heap), cells, 99, u32::MAX),
-        Kind::OneLine => stretched(heap, trial, one_line(heap), cells, 3, 9),
-        Kind::Mixed => mixed(heap, trial, cells, (size, other)),
-        Kind::Deep => {
-            let first = deep(two(heap, 1, size), sets(heap, 1, 2), two(heap, 2, 1));
-            let second = deep(two(heap, size, 2), sets(heap, 2, other), two(heap, 1, 1));
-            side_by_side(heap, trial, first, second, cells)
-        }
-        Kind::Eight => many(heap, trial, four(heap, size), four(heap, size), cells, None),
-        Kind::Nine => {
-            let ninth = Some(size);
-            many(
-                heap,
-                trial,
-                four(heap, size),
-                four(heap, size),
-                cells,
-                ninth,
-            )
-        }
+        Kind::Mcsim => on_two_cores(heap, trial, cells, 0),
+        Kind::Nothing => on_two_cores(heap, trial, cells, 99),
+        Kind::OneLine => on_one_line(heap, trial, cells),
+        Kind::Mixed => on_mixed(heap, trial, cells, sizes),
+        Kind::Deep => on_deep(heap, trial, cells, sizes),
+        Kind::Eight => on_many(heap, trial, cells, sizes.0, None),
+        Kind::Nine => on_many(heap, trial, cells, sizes.0, Some(sizes.0)),
     }
 }

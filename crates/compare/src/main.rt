@@ -18,10 +18,16 @@ use anyhow::anyhow;
 use score::Score;
 
 fn main(rt: HostRuntime) -> anyhow::Result<()> {
-    let mut score = Score::new();
-    families::run(&rt, &mut score)?;
-    if score.differing > 0 {
-        return Err(anyhow!("{} cases differ", score.differing));
+    let mut score = Score::new(rt.alloc());
+    families::run(&rt, &mut score);
+    let Score {
+        differing,
+        failure,
+        ..
+    } = score;
+    match failure {
+        Some(error) => Err(error.into()),
+        None if differing > 0 => Err(anyhow!("{differing} cases differ")),
+        None => Ok(()),
     }
-    Ok(())
 }

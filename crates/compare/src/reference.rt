@@ -5,10 +5,11 @@
 
 mod blocks;
 mod caches;
+pub(crate) mod paper;
 pub(crate) mod plain;
 mod reading;
 pub(crate) mod steps;
 mod telling;
 
 pub(crate) use reading::SCENARIO;
-pub(crate) use telling::{tell, tell_pair, tell_quote, tell_turn};
+pub(crate) use telling::{Teller, tell_quote, tell_turn};

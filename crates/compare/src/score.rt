@@ -2,17 +2,22 @@
 
 use crate::machines::{Kind, try_on};
 use crate::random::Random;
-use crate::trial::{Asked, Trial, retell};
+use crate::trial::{Trial, retell};
 use memory::cell::{Cell, State};
 use std::alloc::{AllocError, Global};
 use std::io;
 
-/// What was counted, over all families and in the one that is under way.
+/// What was counted, over all families and in the one that is under way; the trial, which each case uses again; and the cells
+/// that its machine is lent.
 #[derive(Drop)]
 pub(crate) struct Score {
     pub(crate) differing: usize,
     cases: usize,
     agreed: usize,
+    pub(crate) trial: Trial,
+    cells: Vec<Cell>,
+    /// The first error, after which nothing is tried or told.
+    pub(crate) failure: Option<io::Error>,
 }
 
 /// A kind of machine with so many cells, a layout table of so many entries, and a seed.
@@ -37,7 +42,7 @@ impl Setting {
 
 // What a trial left that differs, if anything does.
 fn verdict(trial: &Trial, cells: &[Cell]) -> &'static str {
-    if trial.told.as_slice() != trial.again.as_bytes() {
+    if trial.told.as_slice() != trial.teller.report.bytes() {
         "reports"
     } else if trial.layout != trial.layout_again {
         "layout tables"
@@ -50,80 +55,91 @@ fn verdict(trial: &Trial, cells: &[Cell]) -> &'static str {
     }
 }
 
-// Fills the tables of a trial and the cells that its machine is lent, the same for both.
-fn fill(
-    trial: &mut Trial,
-    cells: &mut Vec<Cell>,
-    random: &mut Random,
-    setting: Setting,
-) -> Result<(), AllocError> {
-    for place in 0..setting.cells {
+// The following fill tables, and tell whether there was memory for it.
+
+fn fill_cells(cells: &mut Vec<Cell>, random: &mut Random, count: usize) -> bool {
+    let mut fits = true;
+    for _ in 0..count {
         let stamp = random.word(0, 4_294_967_295);
         let valid = stamp % 2 == 0;
         let state = if valid { State::Valid } else { State::Stale };
-        let cell = Cell { state, stamp };
-        cells.push(cell)?;
-        trial.cells_again.push(cell)?;
-        if place < 16 {
-            trial.second.push(cell)?;
-            trial.second_again.push(cell)?;
-        }
+        fits &= cells.push(Cell { state, stamp }).is_ok();
     }
-    for _ in 0..setting.entries {
-        let entry = random.word(0, 70_000);
-        trial.layout.push(entry)?;
-        trial.layout_again.push(entry)?;
-    }
-    Ok(())
+    fits
 }
 
-// Does what is asked both ways, and tells what differs.
-fn both(heap: Global, trial: &mut Trial, setting: Setting) -> Result<&'static str, AllocError> {
-    let mut random = Random::new(setting.seed);
-    let mut cells = Vec::new(heap);
-    fill(trial, &mut cells, &mut random, setting)?;
-    let most = if random.once_in(10) { 18 } else { 4 };
-    let sizes = (random.among(1, most), random.among(1, most));
-    retell(heap, trial, setting.kind, sizes)?;
-    try_on(heap, setting.kind, trial, cells.as_mut_slice(), sizes)?;
-    Ok(verdict(trial, cells.as_slice()))
+fn fill_layout(layout: &mut Vec<u32>, random: &mut Random, count: usize) -> bool {
+    let mut fits = true;
+    for _ in 0..count {
+        fits &= layout.push(random.word(0, 70_000)).is_ok();
+    }
+    fits
+}
+
+// Gives both sides of a trial the same cells and entries.
+fn copy_tables(trial: &mut Trial, cells: &[Cell]) -> bool {
+    let some = cells.get(..16).unwrap_or(cells);
+    let layout = trial.layout.as_slice();
+    trial.cells_again.extend_from_slice(cells).is_ok()
+        && trial.second.extend_from_slice(some).is_ok()
+        && trial.second_again.extend_from_slice(some).is_ok()
+        && trial.layout_again.extend_from_slice(layout).is_ok()
+}
+
+fn show_text(rt: &HostRuntime, title: &str, text: &[u8]) -> io::Result<()> {
+    let shown = String::from_utf8_lossy(rt.alloc(), text)?;
+    println!(rt; "-- {title}, {} bytes:\n{shown}", text.len())
 }
 
 // Shows a trial in full.
 fn show(rt: &HostRuntime, trial: &Trial) -> io::Result<()> {
-    let [first, second, third] = &trial.asked.texts;
-    let parts = [
-        ("the scenario or schedule", first.as_slice()),
-        ("placement a", second.as_slice()),
-        ("placement b", third.as_slice()),
-        ("the simulator", trial.told.as_slice()),
-        ("the reference", trial.again.as_bytes()),
-    ];
-    for (title, text) in parts {
-        let shown = String::from_utf8_lossy(rt.alloc(), text)?;
-        println!(rt; "-- {title}, {} bytes:\n{shown}", text.len())?;
-    }
-    Ok(())
+    let [first, second, third] = &trial.texts;
+    show_text(rt, "the scenario or schedule", first.bytes())?;
+    show_text(rt, "placement a", second.bytes())?;
+    show_text(rt, "placement b", third.bytes())?;
+    show_text(rt, "the simulator", trial.told.as_slice())?;
+    show_text(rt, "the reference", trial.teller.report.bytes())
 }
 
 impl Score {
-    pub(crate) fn new() -> Score {
+    pub(crate) fn new(heap: Global) -> Score {
         Score {
             differing: 0,
             cases: 0,
             agreed: 0,
+            trial: Trial::new(heap),
+            cells: Vec::new(heap),
+            failure: None,
         }
     }
 
-    /// Tries and counts a case; shows it if it is the first of all that differs.
-    pub(crate) fn judge(
-        &mut self,
-        rt: &HostRuntime,
-        setting: Setting,
-        asked: Asked,
-    ) -> io::Result<()> {
-        let mut trial = Trial::new(rt.alloc(), asked);
-        let differing = both(rt.alloc(), &mut trial, setting)?;
+    // Fills all tables anew; tells whether there was memory for it.
+    fn fill(&mut self, random: &mut Random, setting: Setting) -> bool {
+        self.trial.forget();
+        self.cells.clear();
+        fill_cells(&mut self.cells, random, setting.cells)
+            && fill_layout(&mut self.trial.layout, random, setting.entries)
+            && copy_tables(&mut self.trial, self.cells.as_slice())
+    }
+
+    // Does what is asked both ways, and tells what differs.
+    fn both(&mut self, heap: Global, setting: Setting) -> Result<&'static str, AllocError> {
+        let mut random = Random::new(setting.seed);
+        let fits = self.fill(&mut random, setting);
+        let most = if random.once_in(10) { 18 } else { 4 };
+        let sizes = (random.among(1, most), random.among(1, most));
+        retell(&mut self.trial, setting.kind, sizes);
+        let cells = self.cells.as_mut_slice();
+        let tried = try_on(heap, setting.kind, &mut self.trial, cells, sizes);
+        if !fits || tried.is_err() || self.trial.is_torn() {
+            return Err(AllocError);
+        }
+        Ok(verdict(&self.trial, self.cells.as_slice()))
+    }
+
+    // Tries and counts the case that the trial asks; shows it if it is the first of all that differs.
+    fn try_case(&mut self, rt: &HostRuntime, setting: Setting) -> io::Result<()> {
+        let differing = self.both(rt.alloc(), setting)?;
         self.cases = self.cases.wrapping_add(1);
         if differing.is_empty() {
             self.agreed = self.agreed.wrapping_add(1);
@@ -135,15 +151,33 @@ impl Score {
         }
         let number = self.cases;
         println!(rt; "== case {number} of the next family differs: {differing}")?;
-        show(rt, &trial)
+        show(rt, &self.trial)
+    }
+
+    /// Remembers an error.
+    pub(crate) fn fail(&mut self, error: io::Error) {
+        self.failure = Some(error);
+    }
+
+    /// Tries the case that the trial asks.
+    pub(crate) fn judge(&mut self, rt: &HostRuntime, setting: Setting) {
+        if self.failure.is_none() {
+            if let Err(error) = self.try_case(rt, setting) {
+                self.fail(error);
+            }
+        }
     }
 
     /// Tells how a family came out, and begins the next.
-    pub(crate) fn close(&mut self, rt: &HostRuntime, family: &str, name: &str) -> io::Result<()> {
+    pub(crate) fn close(&mut self, rt: &HostRuntime, family: &str, name: &str) {
         let agreed = self.agreed;
         let cases = self.cases;
         self.cases = 0;
         self.agreed = 0;
-        println!(rt; "{family}{name}\t{agreed} of {cases}")
+        if self.failure.is_none() {
+            if let Err(error) = println!(rt; "{family}{name}\t{agreed} of {cases}") {
+                self.fail(error);
+            }
+        }
     }
 }

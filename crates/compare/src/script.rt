@@ -1,8 +1,8 @@
 //! Scenarios that are drawn: placements, and steps that follow one another so that runs go deep.
 
 use crate::random::Random;
-use crate::trial::{Asked, Sort};
-use std::alloc::{AllocError, Global};
+use crate::reference::paper::Paper;
+use crate::trial::Sort;
 
 // The words of the steps, those with a reference first.
 static STEPS: [&str; 6] = ["read", "write", "commit", "flush", "fetch", "resume"];
@@ -13,9 +13,10 @@ fn reference(place: usize) -> usize {
 }
 
 /// A line of weights.
-pub(crate) fn write_weights(text: &mut String, weights: [usize; 5]) -> Result<(), AllocError> {
-    let [w1, w2, w3, w4, wm] = weights;
-    write!(text, "weights\t{w1}\t{w2}\t{w3}\t{w4}\t{wm}\n")
+pub(crate) fn write_weights(text: &mut Paper, weights: [usize; 5]) {
+    text.put(b"weights");
+    text.numbers(&weights);
+    text.put(b"\n");
 }
 
 fn drawn_weights(random: &mut Random) -> [usize; 5] {
@@ -28,15 +29,16 @@ fn drawn_weights(random: &mut Random) -> [usize; 5] {
 }
 
 // Places so many references, each in a block of the memory or now and then in one beyond it.
-fn write_places(text: &mut String, random: &mut Random, count: usize) -> Result<(), AllocError> {
+fn write_places(text: &mut Paper, random: &mut Random, count: usize) {
     let blocks = random.among(2, 20);
     for place in 0..count {
         let number = reference(place);
         let limit = if random.once_in(30) { 65_536 } else { blocks };
         let block = random.below(limit);
-        write!(text, "ref\t{number}\t{block}\n")?;
+        text.put(b"ref");
+        text.numbers(&[number, block]);
+        text.put(b"\n");
     }
-    Ok(())
 }
 
 // What the steps so far were about: for each core how far it is with its access and to which reference, and for each reference
@@ -84,52 +86,43 @@ impl Plot {
 
 // Steps of so many cores on so many references.
 fn write_steps(
-    text: &mut String,
+    text: &mut Paper,
     random: &mut Random,
     cores: usize,
     references: usize,
     count: usize,
-) -> Result<(), AllocError> {
+) {
     let mut plot = Plot {
         stages: [(0, 0); 9],
         writers: [0; 12],
     };
     for _ in 0..count {
         let (word, core, place) = plot.next(random, cores, references);
-        let name = STEPS[word % 6];
+        text.words(&[STEPS[word % 6]]);
+        text.numbers(&[core]);
         if word < 4 {
-            let number = reference(place);
-            write!(text, "{name}\t{core}\t{number}\n")?;
-        } else {
-            write!(text, "{name}\t{core}\n")?;
+            text.numbers(&[reference(place)]);
         }
+        text.put(b"\n");
     }
-    Ok(())
 }
 
-/// A whole scenario with at most so many steps, or two placements under a schedule.
-pub(crate) fn drawn(
-    heap: Global,
+/// Draws a whole scenario with at most so many steps, or two placements under a schedule.
+pub(crate) fn draw(
+    texts: &mut [Paper; 3],
     random: &mut Random,
     cores: usize,
     steps: usize,
     sort: Sort,
-) -> Result<Asked, AllocError> {
-    let mut first = String::new(heap);
-    let mut second = String::new(heap);
-    let mut text = String::new(heap);
+) {
     let references = random.among(1, 12);
     let count = random.among(0, steps);
-    write_weights(&mut text, drawn_weights(random))?;
+    write_weights(&mut texts[0], drawn_weights(random));
     if let Sort::Pair = sort {
-        write_places(&mut first, random, references)?;
-        write_places(&mut second, random, references)?;
+        write_places(&mut texts[1], random, references);
+        write_places(&mut texts[2], random, references);
     } else {
-        write_places(&mut text, random, references)?;
+        write_places(&mut texts[0], random, references);
     }
-    write_steps(&mut text, random, cores, references, count)?;
-    Ok(Asked {
-        texts: [text.into_bytes(), first.into_bytes(), second.into_bytes()],
-        sort,
-    })
+    write_steps(&mut texts[0], random, cores, references, count);
 }

@@ -1,7 +1,6 @@
 //! The caches of all cores, as one list of slots.
 
 use crate::reference::plain::Level;
-use std::alloc::{AllocError, Global};
 
 /// A block with what is known of it.
 #[derive(Clone, Copy)]
@@ -24,8 +23,26 @@ pub(crate) struct Slot {
     pub(crate) line: Line,
 }
 
+// No machine here has more places.
+const MOST_SLOTS: usize = 128;
+
+// A place of no core.
+const NOWHERE: Slot = Slot {
+    core: usize::MAX,
+    level: 0,
+    rooms: 1,
+    room: 0,
+    queues: false,
+    age: 0,
+    line: Line {
+        block: 0,
+        modified: false,
+        stamp: 0,
+    },
+};
+
 #[derive(Drop)]
-pub(crate) struct Caches(Vec<Slot>);
+pub(crate) struct Caches([Slot; MOST_SLOTS]);
 
 // How many rooms a level has, how many places in each, and whether a touch leaves its lines as old as they were.
 fn shape(level: Level) -> (usize, usize, bool) {
@@ -40,8 +57,9 @@ fn shape(level: Level) -> (usize, usize, bool) {
 
 impl Caches {
     /// Empty caches.
-    pub(crate) fn new(heap: Global, levels: &[(usize, Level)]) -> Result<Caches, AllocError> {
-        let mut slots = Vec::new(heap);
+    pub(crate) fn new(levels: &[(usize, Level)]) -> Caches {
+        let mut slots = [NOWHERE; MOST_SLOTS];
+        let mut free = slots.iter_mut();
         let mut last = 0usize;
         let mut depth = 0usize;
         for (core, level) in levels {
@@ -51,23 +69,17 @@ impl Caches {
             }
             let (rooms, places, queues) = shape(*level);
             for number in 0..rooms.wrapping_mul(places) {
-                slots.push(Slot {
-                    core: *core,
-                    level: depth,
-                    rooms,
-                    room: number.checked_rem(rooms).unwrap_or(0),
-                    queues,
-                    age: 0,
-                    line: Line {
-                        block: 0,
-                        modified: false,
-                        stamp: 0,
-                    },
-                })?;
+                if let Some(slot) = free.next() {
+                    slot.core = last;
+                    slot.level = depth;
+                    slot.rooms = rooms;
+                    slot.room = number.checked_rem(rooms).unwrap_or(0);
+                    slot.queues = queues;
+                }
             }
             depth = depth.wrapping_add(1);
         }
-        Ok(Caches(slots))
+        Caches(slots)
     }
 
     /// The slot of a block that a core holds.

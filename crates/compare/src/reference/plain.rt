@@ -27,11 +27,11 @@ pub(crate) enum Part {
 }
 
 /// Each level with the number of its core, core after core and for each from the first level on; the parts of the memory, of
-/// which the last is the whole; and all cells, table after table. How the levels were piled makes no difference, and so is not
-/// told.
+/// which the last is the whole; and all cells, table after table, which a study changes. How the levels were piled makes no
+/// difference, and so is not told.
 #[derive(Drop)]
-pub(crate) struct Machine<'a> {
+pub(crate) struct Machine<'a, 'c> {
     pub(crate) levels: &'a [(usize, Level)],
     pub(crate) parts: &'a [Part],
-    pub(crate) cells: Vec<Cell>,
+    pub(crate) cells: &'c mut [Cell],
 }

@@ -1,7 +1,7 @@
 //! Reading: one pass over the bytes of a text, which checks each line as it ends.
 
 use crate::reference::steps::{Call, Kind};
-use std::alloc::AllocError;
+use std::alloc::Global;
 
 /// What a layout table says of a reference that is not placed.
 pub(crate) const UNPLACED: u32 = 65_536;
@@ -45,6 +45,8 @@ pub(crate) const SCHEDULE: Form = Form {
 pub(crate) struct Script {
     pub(crate) weights: [u32; 5],
     pub(crate) calls: Vec<Call>,
+    /// Whether memory was wanting for a step.
+    pub(crate) is_torn: bool,
 }
 
 /// Where a text fails, and by which number; 0 if it does not.
@@ -53,6 +55,14 @@ pub(crate) struct Fault {
     pub(crate) line: usize,
     pub(crate) field: usize,
     pub(crate) number: u64,
+}
+
+fn fault_at(line: usize, field: usize, number: u64) -> Fault {
+    Fault {
+        line,
+        field,
+        number,
+    }
 }
 
 #[derive(Clone, Copy)]
@@ -132,18 +142,19 @@ impl Line {
         self.fields = self.fields.wrapping_add(1);
     }
 
-    // The field and the number of a line's fault, or twice 0. A good reference is placed.
-    fn check(&self, layout: &mut [u32], form: Form, is_first: bool, stepped: bool) -> (usize, u64) {
+    // Whether the line may stand where it does.
+    fn stands(&self, form: Form, is_first: bool, stepped: bool) -> bool {
         let is_later = form.steps && !is_first;
-        let stands = match self.word {
+        match self.word {
             Word::Weights => form.steps && is_first,
             Word::Reference => form.references && !stepped && (is_later || !form.steps),
             Word::Step(_) => is_later,
             Word::Unknown => false,
-        };
-        if !stands {
-            return (1, 17);
         }
+    }
+
+    // The field and the number of a fault in a line that may stand there, or twice 0. A good reference is placed.
+    fn check(&self, layout: &mut [u32]) -> (usize, u64) {
         if self.fields != self.wanted.wrapping_add(1) {
             return (0, 18);
         }
@@ -170,47 +181,67 @@ fn block_of(layout: &[u32], reference: u32) -> u32 {
 }
 
 impl Script {
+    pub(crate) fn new(heap: Global) -> Script {
+        Script {
+            weights: [0; 5],
+            calls: Vec::new(heap),
+            is_torn: false,
+        }
+    }
+
+    pub(crate) fn clear(&mut self) {
+        self.weights = [0; 5];
+        self.calls.clear();
+    }
+
     // Takes a good line.
-    fn keep(&mut self, line: Line, layout: &[u32]) -> Result<(), AllocError> {
+    fn keep(&mut self, line: Line, layout: &[u32]) {
         let [core, reference, ..] = line.numbers;
         match line.word {
             Word::Weights => self.weights = line.numbers,
-            Word::Step(kind) => self.calls.push(Call {
-                kind,
-                core: core as usize,
-                block: block_of(layout, reference) as usize,
-            })?,
+            Word::Step(kind) => {
+                let call = Call {
+                    kind,
+                    core: core as usize,
+                    block: block_of(layout, reference) as usize,
+                };
+                if self.calls.push(call).is_err() {
+                    self.is_torn = true;
+                }
+            }
             _ => {}
         }
-        Ok(())
+    }
+
+    // Checks a line as it ends, and takes it if it is good.
+    fn end(&mut self, line: Line, layout: &mut [u32], form: Form, fault: &mut Fault) {
+        let (field, number) = if line.stands(form, fault.line == 1, !self.calls.is_empty()) {
+            line.check(layout)
+        } else {
+            (1, 17)
+        };
+        fault.field = field;
+        fault.number = number;
+        if number == 0 {
+            self.keep(line, layout);
+            fault.line = fault.line.wrapping_add(1);
+        }
     }
 
     /// Reads a text to its end, or to its first fault, and places its references.
-    pub(crate) fn read(
-        &mut self,
-        layout: &mut [u32],
-        form: Form,
-        text: &[u8],
-    ) -> Result<Fault, AllocError> {
+    pub(crate) fn read(&mut self, layout: &mut [u32], form: Form, text: &[u8]) -> Fault {
         if text.len() > MOST_BYTES {
-            return Ok(Fault {
-                line: 0,
-                field: 0,
-                number: 15,
-            });
+            fault_at(0, 0, 15)
+        } else if text.is_empty() && form.steps {
+            fault_at(1, 1, 17)
+        } else {
+            self.scan(layout, form, text)
         }
-        if text.is_empty() && form.steps {
-            return Ok(Fault {
-                line: 1,
-                field: 1,
-                number: 17,
-            });
-        }
-        let mut fault = Fault {
-            line: 1,
-            field: 0,
-            number: 0,
-        };
+    }
+
+    // The same, for a text of a length that may be.
+    fn scan(&mut self, layout: &mut [u32], form: Form, text: &[u8]) -> Fault {
+        let mut fault = fault_at(1, 0, 0);
         let mut line = NO_LINE;
         let mut start = 0usize;
         let mut field_start = 0usize;
@@ -224,20 +255,17 @@ impl Script {
                 if place.wrapping_sub(start) > MOST_LINE {
                     break;
                 }
-                let stepped = !self.calls.is_empty();
-                (fault.field, fault.number) = line.check(layout, form, fault.line == 1, stepped);
+                self.end(line, layout, form, &mut fault);
                 if fault.number > 0 {
-                    return Ok(fault);
+                    return fault;
                 }
-                self.keep(line, layout)?;
                 line = NO_LINE;
                 start = field_start;
-                fault.line = fault.line.wrapping_add(1);
             }
         }
         if start < text.len() {
             fault.number = 16;
         }
-        Ok(fault)
+        fault
     }
 }

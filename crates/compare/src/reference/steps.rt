@@ -1,10 +1,9 @@
 //! A study: cores over one memory, played call by call.
 
 use crate::reference::blocks::Memory;
-use crate::reference::caches::{Caches, Line};
+use crate::reference::caches::{Caches, Line, Slot};
 use crate::reference::plain::Machine;
 use memory::cell::{Cell, State};
-use std::alloc::{AllocError, Global};
 
 const MOST_STEPS: u64 = 1_000_000;
 
@@ -57,11 +56,11 @@ const READY: Core = Core {
 
 /// The state of a study. Of the weights the first four are those of the levels, the fifth is that of the memory.
 #[derive(Drop)]
-pub(crate) struct Study {
+pub(crate) struct Study<'a> {
     caches: Caches,
     cores: [Core; MOST_CORES],
     count: usize,
-    memory: Memory,
+    memory: Memory<'a>,
     weights: [u32; 5],
     accepted: u64,
     writes: u32,
@@ -69,9 +68,9 @@ pub(crate) struct Study {
     pub(crate) total: u64,
 }
 
-impl Study {
+impl<'a> Study<'a> {
     /// A study that has counted nothing yet.
-    pub(crate) fn new(heap: Global, machine: Machine) -> Result<Study, AllocError> {
+    pub(crate) fn new(machine: Machine<'_, 'a>) -> Study<'a> {
         let Machine {
             levels,
             parts,
@@ -81,17 +80,17 @@ impl Study {
             [] => 0,
             [.., (last, _)] => last.saturating_add(1),
         };
-        Ok(Study {
-            caches: Caches::new(heap, levels)?,
+        Study {
+            caches: Caches::new(levels),
             cores: [READY; MOST_CORES],
             count,
-            memory: Memory::new(heap, parts, cells)?,
+            memory: Memory::new(parts, cells),
             weights: [0; 5],
             accepted: 0,
             writes: 0,
             accesses: 0,
             total: 0,
-        })
+        }
     }
 
     /// Opens the study, or leaves all as it was and tells the number of the refusal.
@@ -118,12 +117,6 @@ impl Study {
     /// The mean penalty in hundredths.
     pub(crate) fn figure(&self) -> Option<u64> {
         self.total.wrapping_mul(100).checked_div(self.accesses)
-    }
-
-    /// The cells of all tables, as the study leaves them.
-    pub(crate) fn into_cells(self) -> Vec<Cell> {
-        let Study { memory, .. } = self;
-        memory.cells
     }
 
     fn store(&mut self, block: usize, stamp: u32) {
@@ -160,73 +153,97 @@ impl Study {
         awaited && matches!(self.caches.find(holder, block), Some(slot) if slot.line.modified)
     }
 
+    // Whether the block that a core waits for is valid in the memory.
+    fn is_valid(&mut self, block: usize) -> bool {
+        matches!(self.memory.cell(block), Some(cell) if cell.state == State::Valid)
+    }
+
     // The number of a step's refusal, or 0.
     fn refusal(&mut self, call: Call) -> u64 {
-        let core = match self.cores.get(call.core) {
-            _ if self.accepted >= MOST_STEPS => return 4,
-            Some(core) if call.core < self.count => *core,
-            _ => return 5,
-        };
-        let (names_block, stands) = match call.kind {
-            Kind::Read | Kind::Write | Kind::Commit => (true, !core.waiting && !core.due),
+        if self.accepted >= MOST_STEPS {
+            return 4;
+        }
+        match self.cores.get(call.core).copied() {
+            Some(core) if call.core < self.count => self.refusal_to(core, call),
+            _ => 5,
+        }
+    }
+
+    // The same, where the core is there.
+    fn refusal_to(&mut self, core: Core, call: Call) -> u64 {
+        let beyond = call.block >= self.memory.size();
+        let (beyond, stands) = match call.kind {
+            Kind::Read | Kind::Write | Kind::Commit => (beyond, !core.waiting && !core.due),
             Kind::Fetch => (false, core.waiting),
             Kind::Resume => (false, core.due),
-            Kind::Flush => (true, true),
+            Kind::Flush => (beyond, true),
         };
-        if names_block && call.block >= self.memory.size() {
+        if beyond {
             return 6;
         }
         if !stands {
             return 7;
         }
         match call.kind {
-            Kind::Fetch
-                if !matches!(self.memory.cell(core.block), Some(cell) if cell.state == State::Valid) =>
-                8,
+            Kind::Fetch if !self.is_valid(core.block) => 8,
             Kind::Flush if !self.is_owed(call.core, call.block) => 9,
             _ => 0,
         }
     }
 
-    // The access that a core asked for last.
-    fn access(&mut self, core: usize) -> (&'static str, u64) {
-        let Some(asked) = self.cores.get_mut(core) else {
-            return ("", 0);
-        };
-        let block = asked.block;
-        let writes = asked.writes;
-        let slot = self.caches.find(core, block);
-        asked.due = false;
-        asked.waiting = slot.is_none();
-        let Some(slot) = slot else {
-            return ("waits", block as u64);
-        };
+    // Touches the slot of a block, if the core holds it; tells the slot as it was found, but written, and whether its line was
+    // shared. In the first level the line becomes the newest, but not in a queue; from further down it is taken out.
+    fn touch(&mut self, core: usize, block: usize, writes: bool) -> Option<(Slot, bool)> {
+        let slot = self.caches.find(core, block)?;
         let shared = !slot.line.modified;
         if writes {
             self.writes = self.writes.wrapping_add(1);
             slot.line.modified = true;
             slot.line.stamp = self.writes;
         }
-        // in the first level the line becomes the newest, but not in a queue; from further down it is brought up
-        let level = slot.level;
-        let line = slot.line;
-        if level > 0 {
+        let found = *slot;
+        if found.level > 0 {
             slot.age = 0;
-        } else if !slot.queues {
+        } else if !found.queues {
             slot.age = self.accepted;
         }
+        Some((found, shared))
+    }
+
+    // Takes the block from all others.
+    fn claim(&mut self, core: usize, block: usize) {
+        self.caches.drop_elsewhere(core, block);
+        if let Some(cell) = self.memory.cell(block) {
+            cell.state = State::Stale;
+        }
+    }
+
+    // Counts an access to a line that was found, and brings the line up.
+    fn complete(&mut self, core: usize, slot: Slot) {
         self.accesses = self.accesses.wrapping_add(1);
-        self.charge(level.min(3));
-        if writes && shared {
-            self.caches.drop_elsewhere(core, block);
-            if let Some(cell) = self.memory.cell(block) {
-                cell.state = State::Stale;
-            }
+        self.charge(slot.level.min(3));
+        if slot.level > 0 {
+            self.put(core, slot.line);
         }
-        if level > 0 {
-            self.put(core, line);
+    }
+
+    // The access that a core asked for last.
+    fn access(&mut self, core: usize) -> (&'static str, u64) {
+        let asked = self.cores.get(core).copied().unwrap_or(READY);
+        let touched = self.touch(core, asked.block, asked.writes);
+        if let Some(asked) = self.cores.get_mut(core) {
+            asked.due = false;
+            asked.waiting = touched.is_none();
         }
-        (if writes { "wrote" } else { "read" }, u64::from(line.stamp))
+        let Some((slot, shared)) = touched else {
+            return ("waits", asked.block as u64);
+        };
+        if asked.writes && shared {
+            self.claim(core, asked.block);
+        }
+        self.complete(core, slot);
+        let word = if asked.writes { "wrote" } else { "read" };
+        (word, u64::from(slot.line.stamp))
     }
 
     fn fetch(&mut self, core: usize) -> (&'static str, u64) {

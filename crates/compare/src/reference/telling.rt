@@ -1,19 +1,20 @@
 //! Telling: what a study comes to, as the lines of a report.
 
+use crate::reference::paper::Paper;
 use crate::reference::plain::Machine;
 use crate::reference::reading::{Fault, Form, PLACEMENT, REFERENCES, SCHEDULE, Script, UNPLACED};
 use crate::reference::steps::{Study, Turn};
-use memory::cell::Cell;
-use std::alloc::{AllocError, Global};
+use std::alloc::Global;
 
-/// What the cells of the memory hold after a study, and its figure, if there is one.
+/// A report, and the script that it is about.
 #[derive(Drop)]
-pub(crate) struct Told {
-    pub(crate) cells: Vec<Cell>,
-    pub(crate) figure: Option<u64>,
+pub(crate) struct Teller {
+    pub(crate) report: Paper,
+    script: Script,
 }
 
-fn tell_fault(out: &mut String, side: &str, file: &str, fault: Fault) -> Result<(), AllocError> {
+// Reports that a file fails.
+fn tell_fault(out: &mut Paper, side: &str, file: &str, fault: Fault) {
     let Fault {
         line,
         field,
@@ -24,155 +25,134 @@ fn tell_fault(out: &mut String, side: &str, file: &str, fault: Fault) -> Result<
         15..=19 => "text",
         _ => "study",
     };
-    write!(
-        out,
-        "{side}fault\t{file}{layer}\t{line}\t{field}\t{number}\n"
-    )
+    out.words(&[side, "fault\t", file, layer]);
+    out.numbers(&[line, field, number as usize]);
+    out.put(b"\n");
 }
 
 /// The line of a step. Of a side only refused ones are told.
-pub(crate) fn tell_turn(
-    out: &mut String,
-    side: &str,
-    number: usize,
-    turn: Turn,
-) -> Result<(), AllocError> {
-    let Turn {
-        word,
-        value,
-        total,
-        refused,
-    } = turn;
+pub(crate) fn tell_turn(out: &mut Paper, side: &str, number: usize, turn: Turn) {
     if side.is_empty() {
-        write!(out, "{number}\t{word}\t{value}\t{total}\n")?;
-    } else if refused {
-        write!(out, "{side}refused\t{number}\t{value}\n")?;
+        out.number(number);
+        out.words(&["\t", turn.word]);
+        out.numbers(&[turn.value as usize, turn.total as usize]);
+        out.put(b"\n");
+    } else if turn.refused {
+        out.words(&[side, "refused"]);
+        out.numbers(&[number, turn.value as usize]);
+        out.put(b"\n");
     }
-    Ok(())
-}
-
-fn play(
-    out: &mut String,
-    side: &str,
-    study: &mut Study,
-    script: &Script,
-) -> Result<(), AllocError> {
-    for (place, call) in script.calls.iter().enumerate() {
-        tell_turn(out, side, place.wrapping_add(1), study.step(*call))?;
-    }
-    tell_quote(out, side, study)
 }
 
 /// The line of a quote.
-pub(crate) fn tell_quote(out: &mut String, side: &str, study: &Study) -> Result<(), AllocError> {
-    let accesses = study.accesses;
-    let total = study.total;
-    write!(out, "{side}quote\t{accesses}\t{total}\t")?;
+pub(crate) fn tell_quote(out: &mut Paper, side: &str, study: &Study) {
+    out.words(&[side, "quote"]);
+    out.numbers(&[study.accesses as usize, study.total as usize]);
     match study.figure() {
-        Some(figure) => write!(out, "{figure}\n"),
-        None => out.push_str("-\n"),
+        Some(figure) => out.numbers(&[figure as usize]),
+        None => out.put(b"\t-"),
     }
-}
-
-// Reads texts, each by its form, and opens the study. Tells the fault, and in which file it is.
-fn begin(
-    study: &mut Study,
-    script: &mut Script,
-    layout: &mut [u32],
-    texts: &[(Form, &[u8])],
-) -> Result<(&'static str, Fault), AllocError> {
-    let mut file = "";
-    for (form, text) in texts {
-        file = form.file;
-        let fault = script.read(layout, *form, text)?;
-        if fault.number > 0 {
-            return Ok((file, fault));
-        }
-    }
-    let fault = Fault {
-        line: 1,
-        field: 0,
-        number: study.open(script.weights),
-    };
-    Ok((file, fault))
-}
-
-/// Reads texts, each by its form, leaves their placements in the layout table, plays the steps, and tells the report: of a
-/// scenario in full, and of a side, whose name is given with a tab, only what a paired study tells. A table of another length
-/// is left as it was.
-pub(crate) fn tell(
-    heap: Global,
-    out: &mut String,
-    side: &str,
-    machine: Machine,
-    layout: &mut [u32],
-    texts: &[(Form, &[u8])],
-) -> Result<Told, AllocError> {
-    let mut study = Study::new(heap, machine)?;
-    let mut script = Script {
-        weights: [0; 5],
-        calls: Vec::new(heap),
-    };
-    if layout.len() == REFERENCES {
-        layout.fill(UNPLACED);
-        let (file, fault) = begin(&mut study, &mut script, layout, texts)?;
-        if fault.number > 0 {
-            layout.fill(UNPLACED);
-            tell_fault(out, side, file, fault)?;
-        } else {
-            play(out, side, &mut study, &script)?;
-        }
-    } else {
-        out.push_str("fault\tlayout\t0\t0\t14\n")?;
-    }
-    Ok(Told {
-        figure: study.figure(),
-        cells: study.into_cells(),
-    })
+    out.put(b"\n");
 }
 
 // The last line of a paired study, from the figures of its sides.
-fn tell_difference(out: &mut String, a: Option<u64>, b: Option<u64>) -> Result<(), AllocError> {
+fn tell_difference(out: &mut Paper, a: Option<u64>, b: Option<u64>) {
+    out.put(b"difference");
     let (Some(a), Some(b)) = (a, b) else {
-        return out.push_str("difference\t-\t-\n");
+        out.put(b"\t-\t-\n");
+        return;
     };
-    let apart = a.abs_diff(b);
-    let cheaper = if a < b {
-        "a"
+    out.numbers(&[a.abs_diff(b) as usize]);
+    let cheaper: &[u8] = if a < b {
+        b"\ta\n"
     } else if b < a {
-        "b"
+        b"\tb\n"
     } else {
-        "equal"
+        b"\tequal\n"
     };
-    write!(out, "difference\t{apart}\t{cheaper}\n")
+    out.put(cheaper);
 }
 
-/// Tells two placements under a schedule, which comes last, each on a machine of its own, and gives back the cells of both.
-pub(crate) fn tell_pair(
-    heap: Global,
-    out: &mut String,
-    first: Machine,
-    second: Machine,
-    [a, b, schedule]: [&[u8]; 3],
-) -> Result<(Vec<Cell>, Vec<Cell>), AllocError> {
-    let mut layout = [0; REFERENCES];
-    let schedule = (SCHEDULE, schedule);
-    let a = tell(
-        heap,
-        out,
-        "a\t",
-        first,
-        &mut layout,
-        &[(PLACEMENT, a), schedule],
-    )?;
-    let b = tell(
-        heap,
-        out,
-        "b\t",
-        second,
-        &mut layout,
-        &[(PLACEMENT, b), schedule],
-    )?;
-    tell_difference(out, a.figure, b.figure)?;
-    Ok((a.cells, b.cells))
+impl Teller {
+    /// An empty report.
+    pub(crate) fn new(heap: Global) -> Teller {
+        Teller {
+            report: Paper::new(heap),
+            script: Script::new(heap),
+        }
+    }
+
+    /// Whether memory was wanting.
+    pub(crate) fn is_torn(&self) -> bool {
+        self.report.is_torn || self.script.is_torn
+    }
+
+    // Reads texts, each by its form, and opens the study. Tells the fault, and in which file it is.
+    fn begin(
+        &mut self,
+        study: &mut Study,
+        layout: &mut [u32],
+        texts: &[(Form, &[u8])],
+    ) -> (&'static str, Fault) {
+        let mut file = "";
+        self.script.clear();
+        for (form, text) in texts {
+            file = form.file;
+            let fault = self.script.read(layout, *form, text);
+            if fault.number > 0 {
+                return (file, fault);
+            }
+        }
+        let number = study.open(self.script.weights);
+        let fault = Fault {
+            line: 1,
+            field: 0,
+            number,
+        };
+        (file, fault)
+    }
+
+    fn play(&mut self, side: &str, study: &mut Study) {
+        for (place, call) in self.script.calls.iter().enumerate() {
+            let turn = study.step(*call);
+            tell_turn(&mut self.report, side, place.wrapping_add(1), turn);
+        }
+        tell_quote(&mut self.report, side, study);
+    }
+
+    /// Reads texts, each by its form, leaves their placements in the layout table, plays the steps, and tells the report: of a
+    /// scenario in full, and of a side, whose name is given with a tab, only what a paired study tells. A table of another
+    /// length is left as it was. Gives back the figure, if there is one.
+    pub(crate) fn tell(
+        &mut self,
+        side: &str,
+        machine: Machine,
+        layout: &mut [u32],
+        texts: &[(Form, &[u8])],
+    ) -> Option<u64> {
+        if layout.len() != REFERENCES {
+            self.report.put(b"fault\tlayout\t0\t0\t14\n");
+            return None;
+        }
+        let mut study = Study::new(machine);
+        layout.fill(UNPLACED);
+        let (file, fault) = self.begin(&mut study, layout, texts);
+        if fault.number > 0 {
+            layout.fill(UNPLACED);
+            tell_fault(&mut self.report, side, file, fault);
+        } else {
+            self.play(side, &mut study);
+        }
+        study.figure()
+    }
+
+    /// Tells two placements under a schedule, which comes last, each on a machine of its own.
+    pub(crate) fn tell_pair(&mut self, first: Machine, second: Machine, texts: [&[u8]; 3]) {
+        let [a, b, schedule] = texts;
+        let mut layout = [0; REFERENCES];
+        let schedule = (SCHEDULE, schedule);
+        let a = self.tell("a\t", first, &mut layout, &[(PLACEMENT, a), schedule]);
+        let b = self.tell("b\t", second, &mut layout, &[(PLACEMENT, b), schedule]);
+        tell_difference(&mut self.report, a, b);
+    }
 }
