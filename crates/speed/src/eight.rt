@@ -6,12 +6,13 @@ ghost use Rattle.direct.specs.Direct.{direct_of};
 ghost use Rattle.direct.specs.Lines.{direct, empty};
 ghost use Rattle.assoc.specs.SetAssociative.{meaning_of};
 ghost use Rattle.assoc.specs.Sets.{set_associative, empty as empty-sets};
-ghost use Rattle.speed.specs.Eight.{four_levels, eight_cores, caches_of, cores_of, both};
+ghost use Rattle.speed.specs.Eight.{four_levels, eight_cores, caches_of, cores_of, both, Beside};
 
 use assoc::set_associative::SetAssociative;
 use direct::direct::Direct;
 use pair::Pair;
 use parts::refusal::BuildError;
+use row::Row;
 use row::one_core::Core;
 use std::alloc::{AllocError, Global};
 use tier::pile::Pile;
@@ -60,17 +61,32 @@ fn deep_core(heap: Global) -> Result<Core<Caches>, AllocError>
     Ok(Core::new(four_levels(heap)?))
 }
 
+// Two rows that were made, side by side. Of any row: a function that names eight cores of four levels is dear to check.
+fn beside<R: Row + Drop>(
+    first: Result<R, AllocError>,
+    second: Result<R, AllocError>,
+) -> Result<Pair<R, R>, AllocError>
+    ensures { Beside R.Row.cores first second result }
+{
+    let first = first?;
+    Ok(Pair::new(first, second?))
+}
+
+fn two_cores(heap: Global) -> Result<TwoCores, AllocError>
+    ensures { IfOk result (λ p. both cores_of p ≡ replicate 2 (core four_levels Ready)) }
+{
+    beside(deep_core(heap), deep_core(heap))
+}
+
 fn four_cores(heap: Global) -> Result<FourCores, AllocError>
     ensures { IfOk result (λ p. both (both cores_of) p ≡ replicate 4 (core four_levels Ready)) }
 {
-    let first = Pair::new(deep_core(heap)?, deep_core(heap)?);
-    let second = Pair::new(deep_core(heap)?, deep_core(heap)?);
-    Ok(Pair::new(first, second))
+    beside(two_cores(heap), two_cores(heap))
 }
 
 /// Eight ready cores, with empty caches.
 pub(crate) fn eight_cores(heap: Global) -> Result<EightCores, AllocError>
     ensures { IfOk result (λ p. both (both (both cores_of)) p ≡ eight_cores) }
 {
-    Ok(Pair::new(four_cores(heap)?, four_cores(heap)?))
+    beside(four_cores(heap), four_cores(heap))
 }

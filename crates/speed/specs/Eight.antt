@@ -1,5 +1,5 @@
 -- Eight cores with caches of four levels.
-use Rattle.std.specs.Prelude.{List, [], ◌∷◌, ◌++◌, replicate}
+use Rattle.std.specs.Prelude.{◌≡◌, IfOk, Result, List, [], ◌∷◌, ◌++◌, replicate}
 use Rattle.protocol.specs.declared.access.CoreState.TheVariants.{Ready}
 use Rattle.tier.specs.declared.pile.Pile.{Pile}
 use Rattle.tier.specs.Meaning.{TierMeaning}
@@ -31,6 +31,10 @@ cores_of c = core (caches_of c.tier) c.state ∷ []
 
 abbrev pub both : {R : Type 0} → (R → List CoreMeaning) → Pair R R → List CoreMeaning
 both cores p = cores p.first ++ cores p.second
+
+-- of two rows of the same cores that were made, a pair has these cores twice
+abbrev pub Beside : {R E : Type 0} → (R → List CoreMeaning) → Result R E → Result R E → Result (Pair R R) E → Type 0
+Beside cores first second made = (cs : List CoreMeaning) → IfOk first (λ r. cores r ≡ cs) → IfOk second (λ r. cores r ≡ cs) → IfOk made (λ p. both cores p ≡ cs ++ cs)
 
 -- eight ready cores with empty caches
 abbrev pub eight_cores : List CoreMeaning
