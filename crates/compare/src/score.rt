@@ -154,9 +154,11 @@ impl Score {
         show(rt, &self.trial)
     }
 
-    /// Remembers an error.
+    /// Remembers an error, if it is the first.
     pub(crate) fn fail(&mut self, error: io::Error) {
-        self.failure = Some(error);
+        if self.failure.is_none() {
+            self.failure = Some(error);
+        }
     }
 
     /// Tries the case that the trial asks.

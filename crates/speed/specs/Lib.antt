@@ -1,4 +1,5 @@
 pub mod Requests
 pub mod Played
 pub mod Eight
+pub mod Private
 pub mod Reported

@@ -6,7 +6,8 @@ ghost use Rattle.direct.specs.Direct.{direct_of};
 ghost use Rattle.direct.specs.Lines.{direct, empty};
 ghost use Rattle.assoc.specs.SetAssociative.{meaning_of};
 ghost use Rattle.assoc.specs.Sets.{set_associative, empty as empty-sets};
-ghost use Rattle.speed.specs.Eight.{four_levels, eight_cores, caches_of, cores_of, both, Beside};
+ghost use Rattle.speed.specs.Eight.{four_levels, eight_cores};
+ghost use Rattle.speed.specs.Private.{caches_of, cores_of, both, Beside};
 
 use assoc::set_associative::SetAssociative;
 use direct::direct::Direct;
@@ -20,9 +21,9 @@ use tier::pile::Pile;
 /// Caches of four levels.
 pub type Caches = Pile<Direct, Pile<SetAssociative, Pile<SetAssociative, SetAssociative>>>;
 
-type TwoCores = Pair<Core<Caches>, Core<Caches>>;
+type DeepPair = Pair<Core<Caches>, Core<Caches>>;
 
-type FourCores = Pair<TwoCores, TwoCores>;
+type FourCores = Pair<DeepPair, DeepPair>;
 
 /// Eight cores with such caches.
 pub type EightCores = Pair<FourCores, FourCores>;
@@ -72,7 +73,7 @@ fn beside<R: Row + Drop>(
     Ok(Pair::new(first, second?))
 }
 
-fn two_cores(heap: Global) -> Result<TwoCores, AllocError>
+fn deep_pair(heap: Global) -> Result<DeepPair, AllocError>
     ensures { IfOk result (λ p. both cores_of p ≡ replicate 2 (core four_levels Ready)) }
 {
     beside(deep_core(heap), deep_core(heap))
@@ -81,7 +82,7 @@ fn two_cores(heap: Global) -> Result<TwoCores, AllocError>
 fn four_cores(heap: Global) -> Result<FourCores, AllocError>
     ensures { IfOk result (λ p. both (both cores_of) p ≡ replicate 4 (core four_levels Ready)) }
 {
-    beside(two_cores(heap), two_cores(heap))
+    beside(deep_pair(heap), deep_pair(heap))
 }
 
 /// Eight ready cores, with empty caches.

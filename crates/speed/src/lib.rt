@@ -1,4 +1,4 @@
-//! The simulator as a static library, for the benchmark: two functions that C calls. Neither has a precondition. An answer of
+//! The simulator as C calls it, for the benchmark: two functions. Neither has a precondition. An answer of
 //! `false` or of 0 may also say that the allocator has no memory: no contract can say when an allocation succeeds.
 #![tactic(auto)]
 

@@ -1,5 +1,5 @@
 -- Two rows of the same cores, side by side, have these cores twice.
-use Rattle.speed.specs.Eight.{caches_of}
+use Rattle.speed.specs.Private.{caches_of}
 use Rattle.speed.proofs.eight.eight_cores.Goals as goal
 
 pub returns : goal.returns

@@ -3,7 +3,8 @@ use Rattle.std.proofs.Common.{◌∙◌}
 use Rattle.device.specs.Device.{after}
 use Rattle.tier.specs.Meaning.{clear}
 use Rattle.tier.specs.Pile.{pile}
-use Rattle.speed.specs.Eight.{four_levels, caches_of}
+use Rattle.speed.specs.Eight.{four_levels}
+use Rattle.speed.specs.Private.{caches_of}
 use Rattle.speed.proofs.eight.stack.Goals as goal
 
 pub returns : goal.returns

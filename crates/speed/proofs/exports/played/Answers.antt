@@ -2,7 +2,8 @@
 use Rattle.std.proofs.Common.{map, cond, ap, IfSome, subst, sym, ◌∙◌}
 use Rattle.machine.specs.Machine.{two_cores}
 use Rattle.speed.specs.Requests.{call_of}
-use Rattle.speed.specs.Eight.{caches_of, eight_cores}
+use Rattle.speed.specs.Eight.{eight_cores}
+use Rattle.speed.specs.Private.{caches_of}
 use Rattle.speed.specs.Played.{Played}
 use Rattle.speed.proofs.exports.played.Goals as goal
 

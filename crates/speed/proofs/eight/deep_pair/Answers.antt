@@ -1,6 +1,6 @@
 -- Two rows of the same cores, side by side, have these cores twice.
-use Rattle.speed.specs.Eight.{caches_of}
-use Rattle.speed.proofs.eight.two_cores.Goals as goal
+use Rattle.speed.specs.Private.{caches_of}
+use Rattle.speed.proofs.eight.deep_pair.Goals as goal
 
 pub returns : goal.returns
 unfolding caches_of
