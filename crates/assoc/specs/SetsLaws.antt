@@ -144,10 +144,8 @@ module _ (ms : Sets) (ok : Good ms) where
     clear_gone = λ n.
         ap (λ i. look_of (nth (map (λ m. after m clear) ms) (n % i)) n) count-clear
         ∙ ap (λ m. look_of m n) (nth-clear (index ms n) (within n)) ∙ (at n).clear_gone n;
-    put_held = λ n k s h. same_sets n (put n k s) ((at n).put_held n k s h);
-    take_free = λ n e. same_sets n (take n) ((at n).take_free n e);
-    change_free = λ n k s e. same_sets n (change n k s) ((at n).change_free n k s e);
-    touch_free = λ n e. same_sets n (touch n) ((at n).touch_free n e);
+    put_held = λ n k s b h. rest n (put n k s) (λ o. o) b ((at n).put_held n k s b h);
+    change_free = λ n k s e. look-own n (change n k s) n refl ∙ (at n).change_free n k s e;
   }
 
 pub sets_lawful : (ms : Sets) → Good ms → Lawful (set_associative ms)

@@ -156,10 +156,8 @@ module _ (lines : ℕ) (ls : Lines) (ok : Sound lines ls) where
     change_rest = λ n k s b ne. beside (look ls n) n b (Some (line n k s)) ne (shows-other (line n k s) b (λ q. ne (sym q))) refl;
     touch_look = λ n b. refl;
     clear_gone = λ n. ap (λ o. shows o n) (empty-at len (n % length (empty len)));
-    put_held = λ n k s h. ap direct (held-some (look ls n) _ _ h);
-    take_free = λ n e. ap direct (held_none (look ls n) _ _ e);
-    change_free = λ n k s e. ap direct (held_none (look ls n) _ _ e);
-    touch_free = λ n e. refl;
+    put_held = λ n k s b h. ap (λ ms. look ms b) (held-some (look ls n) _ _ h);
+    change_free = λ n k s e. ap (λ ms. look ms n) (held_none (look ls n) _ _ e) ∙ e;
   }
 
 pub direct-lawful : (lines : ℕ) (ls : Lines) → Sound lines ls → Lawful (direct ls)

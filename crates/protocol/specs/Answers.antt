@@ -1,5 +1,5 @@
 -- The word and the value of every answer.
-use Rattle.std.specs.Prelude.{ℕ, Bool, true, false, List, [], ◌∷◌, Ok, Err, Result}
+use Rattle.std.specs.Prelude.{ℕ, Bool, true, false, List, codes, Ok, Err, Result}
 use Rattle.protocol.specs.declared.answer.Answer.{Answer}
 use Rattle.protocol.specs.declared.answer.Answer.TheVariants.{Waits, Brought, Read, Wrote, Flushed, Committed}
 use Rattle.protocol.specs.declared.answer.Word.{Word}
@@ -32,10 +32,10 @@ value_of (Err e) = refusal_number e
 
 -- each word in ASCII
 abbrev pub spelling : Word → List ℕ
-spelling WaitsWord = 119 ∷ 97 ∷ 105 ∷ 116 ∷ 115 ∷ []
-spelling BroughtWord = 98 ∷ 114 ∷ 111 ∷ 117 ∷ 103 ∷ 104 ∷ 116 ∷ []
-spelling ReadWord = 114 ∷ 101 ∷ 97 ∷ 100 ∷ []
-spelling WroteWord = 119 ∷ 114 ∷ 111 ∷ 116 ∷ 101 ∷ []
-spelling FlushedWord = 102 ∷ 108 ∷ 117 ∷ 115 ∷ 104 ∷ 101 ∷ 100 ∷ []
-spelling CommittedWord = 99 ∷ 111 ∷ 109 ∷ 109 ∷ 105 ∷ 116 ∷ 116 ∷ 101 ∷ 100 ∷ []
-spelling RefusedWord = 114 ∷ 101 ∷ 102 ∷ 117 ∷ 115 ∷ 101 ∷ 100 ∷ []
+spelling WaitsWord = codes "waits"
+spelling BroughtWord = codes "brought"
+spelling ReadWord = codes "read"
+spelling WroteWord = codes "wrote"
+spelling FlushedWord = codes "flushed"
+spelling CommittedWord = codes "committed"
+spelling RefusedWord = codes "refused"

@@ -15,7 +15,6 @@ core_of (Commit c n) = c
 abbrev pub fits_in : ℕ → Call → Bool
 fits_in size (Read c n) = nat_lt n size
 fits_in size (Write c n) = nat_lt n size
-fits_in size (Fetch c) = true
-fits_in size (Resume c) = true
 fits_in size (Flush c n) = nat_lt n size
 fits_in size (Commit c n) = nat_lt n size
+fits_in size _ = true

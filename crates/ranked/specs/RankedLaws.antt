@@ -135,13 +135,11 @@ module _ (renews : Bool) (ways : ℕ) (ls : Ranks) (ok : Sound ls) where
     change_rest = λ n k s b ne. ap (option_map shown_of) (find-renewed-other ls (line n k s) b ne);
     touch_look = touch_look;
     clear_gone = λ n. refl;
-    put_held = λ n k s h.
+    put_held = λ n k s b h.
         let x = some_of (look ls n) h in
         let r = look-some ls n x.0 x.1 in
-        ap (ranked renews ways) (ap (λ o. if_held o ls (spared ways ls ++ line n k s ∷ [])) r.1);
-    take_free = λ n e. ap (ranked renews ways) (sym (without-none ls n (look_none ls n e)));
-    change_free = λ n k s e. ap (ranked renews ways) (renewed-none ls (line n k s) (look_none ls n e));
-    touch_free = λ n e. ap (ranked renews ways) (touch_free n (look_none ls n e));
+        ap (λ ms. look ms b) (ap (λ o. if_held o ls (spared ways ls ++ line n k s ∷ [])) r.1);
+    change_free = λ n k s e. ap (λ ms. look ms n) (renewed-none ls (line n k s) (look_none ls n e)) ∙ e;
   }
 
 pub ranked-lawful : (renews : Bool) (ways : ℕ) (ls : Ranks) → Sound ls → Lawful (ranked renews ways ls)

@@ -21,17 +21,9 @@ keyword_of bs =
 -- whether a line with this word may come next
 abbrev pub allows : Section → Keyword → Bool
 allows Scenario Weights = true
-allows Scenario Ref = false
-allows Scenario (Step v) = false
-allows Refs Weights = false
 allows Refs Ref = true
 allows Refs (Step v) = true
-allows Steps Weights = false
-allows Steps Ref = false
 allows Steps (Step v) = true
-allows Placement Weights = false
 allows Placement Ref = true
-allows Placement (Step v) = false
 allows Schedule Weights = true
-allows Schedule Ref = false
-allows Schedule (Step v) = false
+allows _ _ = false

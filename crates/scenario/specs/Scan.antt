@@ -25,11 +25,8 @@ state w layout ks s = record { prices = w; layout = layout; calls = ks; section 
 
 -- the section after the weights: a schedule has no placements
 abbrev pub after_weights : Section → Section
-after_weights Scenario = Refs
-after_weights Refs = Refs
-after_weights Steps = Refs
-after_weights Placement = Refs
 after_weights Schedule = Steps
+after_weights _ = Refs
 
 abbrev pub changed_by : State → Change → State
 changed_by st (Weigh w) = state w st.layout st.calls (after_weights st.section)

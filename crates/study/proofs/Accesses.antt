@@ -1,5 +1,5 @@
 -- What every call keeps, and that accesses keep it: waiting, reading and writing.
-use Rattle.std.proofs.Common.{◌≡◌, ℕ, ◌+◌, ◌<◌, Bool, true, false, cond, ◌≢◌, List, [], length, Some, None, Option, sym, refl, ap, ◌∙◌, subst, add-zero}
+use Rattle.std.proofs.Common.{◌≡◌, ℕ, ◌+◌, ◌<◌, Bool, true, false, cond, eqb, ◌≢◌, List, [], length, Some, None, Option, sym, refl, ap, ◌∙◌, subst, add-zero}
 use mathlib.Core.Bool.{false≢true}
 use native.Mathlib.Decide.{ℕ_discrete}
 use Rattle.std.proofs.lemmas.Bool.{eqb-true}
@@ -8,7 +8,7 @@ use Rattle.parts.specs.declared.mark.Mark.TheVariants.{Modified}
 use Rattle.parts.specs.declared.line.Line.{Line}
 use Rattle.parts.specs.Marks.{mark_number, mark_of}
 use Rattle.device.specs.Device.{after}
-use Rattle.tier.specs.Meaning.{TierMeaning, change, Holding, look_of, line, bare, Lawful}
+use Rattle.tier.specs.Meaning.{TierMeaning, change, touch, Holding, look_of, line, bare, Lawful}
 use Rattle.tier.specs.Options.{none-some}
 use Rattle.memory.specs.Meaning.{MemoryMeaning, size_of}
 use Rattle.protocol.specs.declared.access.Access.{Access}
@@ -21,7 +21,7 @@ use Rattle.protocol.specs.declared.call.Call.TheVariants.{Resume}
 use Rattle.protocol.specs.Accesses.{block_of}
 use Rattle.protocol.specs.Answers.{word_of}
 use Rattle.protocol.specs.Calls.{core_of}
-use Rattle.moves.specs.Moves.{is_modified, raised, raised_out}
+use Rattle.moves.specs.Moves.{is_modified, put_back, raised, raised_out}
 use Rattle.moves.proofs.Raising.{mark_of_number, raised_look}
 use Rattle.row.specs.declared.operation.Operation.TheVariants.{BringUp, Change as ToChange}
 use Rattle.row.specs.Cores.{CoreMeaning, core, core_at, tier_at, state_at, done}
@@ -29,11 +29,11 @@ use Rattle.study.specs.Run.{RunMeaning, Outcome}
 use Rattle.study.specs.Step.{valid, memory_taking, waiting, brought_up, reading, alone_cores, alone_memory, writing, access_by, access}
 use Rattle.study.specs.Book.{Book, asking, heard, entered, may_write, noted, Honest}
 use Rattle.study.specs.Coherence.{copy_of}
-use Rattle.study.specs.Told.{Asks, Told}
+use Rattle.study.specs.Told.{Asks, Told, served, given_up}
 use Rattle.study.proofs.Block.{Owner, owner, stamped, kept}
 use Rattle.study.proofs.Tiers.{held, Passed, stayed, gone, lawful-after, Raised, raises, change-holds, change-others}
 use Rattle.study.proofs.Memories.{Kept, alone-kept, alone-stale, left-lawful, left-size, left-others, left-change}
-use Rattle.study.proofs.Rows.{Replaced, copy_here, copy_there, placed, operated_on, turned-done, Drops, Alone, alone}
+use Rattle.study.proofs.Rows.{Replaced, copy_here, copy_there, placed, operated_on, turned-done, Drops, Alone, giving_up, alone}
 use Rattle.study.proofs.Sound.{Sound, inside, change-sound, own-sound}
 use Rattle.study.proofs.Rests.{rest-of}
 
@@ -55,7 +55,7 @@ pub record Inv (r : RunMeaning) (b : Book) : Type 0 where
 -- a call of the run r so answered keeps it; its answer is honest, and tells what is so
 pub record Good (r : RunMeaning) (b : Book) (k : Call) (o : Outcome) : Type 0 where
   pub inv : Inv o.run (noted b k (word_of o.answer))
-  pub told : Told k r o.run o.answer
+  pub told : Told k r o.run o.answer o.charge
   pub honest : Honest (noted b k (word_of o.answer)) (core_of k) o.answer
 
 -- an answer that does not say read claims nothing
@@ -129,6 +129,7 @@ module _ (r : RunMeaning) (b : Book) (k : Call) (S : Sound r.cores r.memory b.nu
             | no ne ↦ ap (λ (x : CoreMeaning). x.tier) (R.there d ne)
           ];
           memory = refl;
+          charged = refl;
         };
         honest = silent;
       }
@@ -178,6 +179,13 @@ module _ (r : RunMeaning) (b : Book) (k : Call) (S : Sound r.cores r.memory b.nu
     mark : (x : Mark) × (mark_of h.0 ≡ Some x) × (mark_number x ≡ h.0)
     mark = mark_of_number h.0 ((ok []).marks n h e)
 
+    -- it was held so, and served so
+    held₁ : look_of t n ≡ Some (mark_number mark.0, h.1, h.2)
+    held₁ = e ∙ ap (λ i. Some (i, h.1, h.2)) (sym mark.2)
+
+    served₁ : t₁ ≡ served t n mark.0 h.1 h.2
+    served₁ = ap (λ o. cond (eqb h.2 1) (after t (touch n)) (put_back t n o h.1)) mark.1
+
     reading-good : Asks k (state_at cs c) (ToRead n) → Good r b k (reading r c n h)
     reading-good asks = record {
       inv = record {
@@ -189,12 +197,15 @@ module _ (r : RunMeaning) (b : Book) (k : Call) (S : Sound r.cores r.memory b.nu
         block = n;
         asked = asks;
         mark = mark.0;
-        held = ap bare e ∙ ap (λ i. Some (i, h.1)) (sym mark.2);
+        level = h.2;
+        held = held₁;
         holds = ap (λ (x : CoreMeaning). look_of x.tier n) replaced₁.here ∙ first₁ ∙ ap (λ i. Some (i, h.1, 1)) (sym mark.2);
         ready = ap (λ (x : CoreMeaning). x.state) replaced₁.here;
+        tier = ap (λ (x : CoreMeaning). x.tier) replaced₁.here ∙ served₁;
         others = replaced₁.there;
         rest = rest-of r _ c n t₁ out S.memory (inside cs m b.number S c) (λ j ne. copy_here cs cs₁ c _ replaced₁ j) (λ j ne. refl) (λ j ne. up.passed j) stays₁;
         memory = left-others m S.memory out n stays₁;
+        charged = refl;
       };
       honest = λ _. rw q (stamped (b.number n) _ _ c (h.0, h.1) (ap bare e) (S.blocks n within));
     }
@@ -218,6 +229,9 @@ module _ (r : RunMeaning) (b : Book) (k : Call) (S : Sound r.cores r.memory b.nu
 
     kept₂ : Kept n m₁ (alone_memory (is_modified h) c n cs₁ m₁)
     kept₂ = alone-kept m₁ sound₁.memory (is_modified h) c n cs₁
+
+    given_up₂ : (d : ℕ) → d ≢ c → tier_at cs₂ d ≡ given_up mark.0 n (tier_at cs₁ d)
+    given_up₂ d ne = subst (λ i. tier_at (alone_cores (eqb i 1) c n cs₁) d ≡ given_up mark.0 n (tier_at cs₁ d)) mark.2 (giving_up mark.0 cs₁ c n sound₁.short d ne)
 
     abbrev w : ℕ
     w = r.tally.writes + 1
@@ -251,17 +265,23 @@ module _ (r : RunMeaning) (b : Book) (k : Call) (S : Sound r.cores r.memory b.nu
           told = record {
             block = n;
             asked = asks;
+            mark = mark.0;
             before = h.1;
-            held = (h.0, ap bare e);
+            level = h.2;
+            held = held₁;
             holds = ap (λ (x : CoreMeaning). look_of x.tier n) replaced₂.here ∙ (up.lawful []).change_in n Modified w (h.0, h.1, 1) first₁;
             ready = ap (λ (x : CoreMeaning). x.state) replaced₂.here;
+            tier = ap (λ (x : CoreMeaning). x.tier) replaced₂.here ∙ ap (λ i. after i (change n Modified w)) served₁;
             alone = λ d ne. copy_there cs₂ _ c _ replaced₂ n d ne ∙ (alone₂.there d ne).empty;
             stale = stale₂;
             rest = rest-of r _ c n t₁ out S.memory (inside cs m b.number S c)
                 (λ j ne. copy_here cs₂ _ c _ replaced₂ j ∙ change-others t₁ up.lawful n Modified w j ne) kept₂.others (λ j ne. up.passed j) stays₁;
             newest = refl;
+            charged = refl;
             states = λ d ne. ap (λ (x : CoreMeaning). x.state) (replaced₂.there d ne) ∙ (alone₂.there d ne).state ∙ ap (λ (x : CoreMeaning). x.state) (replaced₁.there d ne);
             others = λ d j ne nj. copy_there cs₂ _ c _ replaced₂ j d ne ∙ (alone₂.there d ne).others j nj ∙ copy_there cs cs₁ c _ replaced₁ j d ne;
+            tiers = λ d ne. ap (λ (x : CoreMeaning). x.tier) (replaced₂.there d ne) ∙ given_up₂ d ne
+                ∙ ap (λ (x : CoreMeaning). given_up mark.0 n x.tier) (replaced₁.there d ne);
           };
           honest = silent;
         }

@@ -179,6 +179,7 @@ reported cs m w ok ks =
       steps = omega (arith, all.steps);
       writes = omega (arith, all.writes);
       accesses = omega (arith, all.accesses);
+      prices = all.prices;
       total = omega (arith, all.total);
       totals = totals_from ks r;
       charges = λ k. (fair-step end k).cheap (subst Affordable (sym all.prices) ok);

@@ -6,6 +6,7 @@ pub mod Sound
 pub mod Rests
 pub mod Accesses
 pub mod Steps
+pub mod Calling
 pub mod Theorem
 pub mod Outcomes
 pub mod Counting

@@ -8,11 +8,12 @@ use Rattle.parts.specs.Marks.{mark_number}
 use Rattle.tier.specs.Meaning.{TierMeaning}
 use Rattle.tier.specs.Options.{never}
 use Rattle.memory.specs.Meaning.{store, size_of, Lawful as LawfulMemory}
+use Rattle.protocol.specs.Prices.{price}
 use Rattle.row.specs.Cores.{tier_at}
 use Rattle.study.specs.Run.{RunMeaning}
-use Rattle.study.specs.Step.{valid, memory_taking_as, memory_taking}
+use Rattle.study.specs.Step.{valid, memory_taking_as, memory_taking, movement_as, movement_of}
 use Rattle.study.specs.Coherence.{copy_of}
-use Rattle.study.specs.Told.{Keeps, unless_modified, Leaves, Rest}
+use Rattle.study.specs.Told.{Keeps, unless_modified, leaving_price, Leaves, Rest}
 use Rattle.study.proofs.Block.{Copy}
 use Rattle.study.proofs.Tiers.{held, Passed, stayed, gone}
 use Rattle.study.proofs.Memories.{valid-named, left-others}
@@ -28,7 +29,7 @@ module _ (r r' : RunMeaning) (c n : ℕ) (t : TierMeaning) (o : Option Line) (ok
     (memory : (b : ℕ) → b ≢ n → valid r'.memory b ≡ valid (memory_taking o r.memory) b)
     (passed : (b : ℕ) → b ≢ n → Passed (tier_at r.cores c) t o b)
     (stays : (g : Line) → o ≡ Some g → n ≢ g.block) where
-  keeps : (b : ℕ) → b ≢ n → leaver_of o ≢ Some b → Passed (tier_at r.cores c) t o b → Keeps c b r r'
+  pub keeps : (b : ℕ) → b ≢ n → leaver_of o ≢ Some b → Passed (tier_at r.cores c) t o b → Keeps c b r r'
   keeps b ne not (stayed e f) = (copies b ne ∙ e, memory b ne ∙ left-others r.memory ok o b f)
   keeps b ne not (gone g e q x y) = absurd (not (ap leaver_of e ∙ ap Some (sym q)))
 
@@ -36,13 +37,25 @@ module _ (r r' : RunMeaning) (c n : ℕ) (t : TierMeaning) (o : Option Line) (ok
   stored Shared b s h = refl
   stored Modified b s h = valid-named r.memory ok (store b s) h
 
-  leaves : (g : Line) → o ≡ Some g → Leaves c g.block r r'
+  -- what the leaving costs
+  abbrev cost : ℕ
+  cost = price r.prices (movement_of o)
+
+  leaving-cost : (k : Mark) → price r.prices (movement_as k) ≡ leaving_price r.prices k
+  leaving-cost Shared = refl
+  leaving-cost Modified = refl
+
+  pub no-cost : (o' : Option Line) → leaver_of o' ≡ None → price r.prices (movement_of o') ≡ 0
+  no-cost None e = refl
+  no-cost (Some g) e = never g.block (sym e)
+
+  leaves : (g : Line) → o ≡ Some g → Leaves c g.block r r' cost
   leaves g e = go (passed g.block apart)
     where
       apart : g.block ≢ n
       apart q = stays g e (sym q)
 
-      go : Passed (tier_at r.cores c) t o g.block → Leaves c g.block r r'
+      go : Passed (tier_at r.cores c) t o g.block → Leaves c g.block r r' cost
       go (stayed x f) = absurd (f g e refl)
       go (gone g' e' q x y) =
           let same : g' ≡ g = same_Some g' g (sym e' ∙ e) in
@@ -54,13 +67,14 @@ module _ (r r' : RunMeaning) (c n : ℕ) (t : TierMeaning) (o : Option Line) (ok
             held = here;
             gone = copies g.block apart ∙ ap (held t) q ∙ y;
             memory = memory g.block apart ∙ ap (λ i. valid (memory_taking i r.memory) g.block) e ∙ stored g.mark g.block g.stamp (inside g.block _ here);
+            charged = ap (λ i. price r.prices (movement_of i)) e ∙ leaving-cost g.mark;
           }
 
-  lefts : (o' : Option Line) → o ≡ o' → (b : ℕ) → leaver_of o' ≡ Some b → (b ≢ n) × Leaves c b r r'
+  pub lefts : (o' : Option Line) → o ≡ o' → (b : ℕ) → leaver_of o' ≡ Some b → (b ≢ n) × Leaves c b r r' cost
   lefts None e b q = never b q
   lefts (Some g) e b q =
       let same : g.block ≡ b = same_Some g.block b q in
       ((λ z. stays g e (sym z ∙ sym same)), rw (← same) (leaves g e))
 
-  pub rest-of : Rest c n r r'
-  rest-of = record { leaver = leaver_of o; left = lefts o refl; kept = λ b ne not. keeps b ne not (passed b ne) }
+  abbrev pub rest-of : Rest c n r r'
+  rest-of = record { leaver = leaver_of o; cost = cost; left = lefts o refl; none_left = no-cost o; kept = λ b ne not. keeps b ne not (passed b ne) }

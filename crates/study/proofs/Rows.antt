@@ -1,10 +1,14 @@
 -- A row of at most eight cores, by what stands at each place: one core replaced, and one block dropped by all cores but one.
-use Rattle.std.proofs.Common.{◌≡◌, ℕ, zero, suc, ◌+◌, ◌<◌, ◌≤◌, Bool, true, false, cond, ltb, ◌&&◌, ◌≢◌, List, [], ◌∷◌, length, get_or, set, None, sym, refl, ap, ◌∙◌, ⊎_elim, le_of_suc-le-suc, not-suc-le-zero, arith, length-set, get_or-set_other, get_or-set_same}
+use Rattle.std.proofs.Common.{◌≡◌, ℕ, zero, suc, ◌+◌, ◌<◌, ◌≤◌, Bool, true, false, cond, eqb, ltb, ◌&&◌, ◌||◌, ◌≢◌, List, [], ◌∷◌, length, get_or, set, None, sym, refl, ap, ◌∙◌, ⊎_elim, le_of_suc-le-suc, not-suc-le-zero, arith, length-set, get_or-set_other, get_or-set_same}
 use mathlib.Core.Bool.{false≢true}
 use native.Mathlib.Decide.{ℕ_discrete}
 use lib.ListN.{get_or-eq_default}
 use Rattle.std.proofs.lemmas.Bool.{cases_lt, lt-ltb, le-ltb, eq-eqb, eqb-true, ne_eqb, or_cases}
-use Rattle.tier.specs.Meaning.{take, look_of, bare, Lawful}
+use Rattle.device.specs.Device.{after}
+use Rattle.parts.specs.declared.mark.Mark.{Mark}
+use Rattle.parts.specs.declared.mark.Mark.TheVariants.{Shared, Modified}
+use Rattle.parts.specs.Marks.{mark_number}
+use Rattle.tier.specs.Meaning.{TierCall, take, look_of, bare, Lawful}
 use Rattle.protocol.specs.declared.access.Access.{Access}
 use Rattle.protocol.specs.declared.access.CoreState.{CoreState}
 use Rattle.protocol.specs.declared.access.CoreState.TheVariants.{Ready, Waiting, Due}
@@ -14,7 +18,7 @@ use Rattle.row.specs.declared.operation.Operation.{Operation}
 use Rattle.row.specs.Cores.{CoreMeaning, core, absent, core_at, place, tier_at, state_at, turned, operated, done, reaches, dropped, invalidated, later, met_by, met, awaits, awaited}
 use Rattle.study.specs.Step.{alone_cores}
 use Rattle.study.specs.Coherence.{copy_of}
-use Rattle.study.specs.Told.{Wanted}
+use Rattle.study.specs.Told.{given_up, Wanted}
 use Rattle.study.proofs.Tiers.{held, lawful-after}
 
 -- in a row of at most eight, every core is at its place
@@ -30,6 +34,11 @@ past cs d h le = at_place cs d h ∙ get_or-eq_default cs absent le
 pub absent-holds : (n : ℕ) → held absent.tier n ≡ None
 unfolding absent
 absent-holds n = refl
+
+-- no call alters a core that is not there
+pub absent-stays : (c : TierCall) → absent.tier ≡ after absent.tier c
+unfolding absent
+absent-stays c = refl
 
 pub absent_shows : (n : ℕ) → look_of absent.tier n ≡ None
 unfolding absent
@@ -136,6 +145,21 @@ module _ (cs : List CoreMeaning) (short : length cs ≤ 8) (c n : ℕ) where
       rw (after_message d h, r) (drops_take n (core_at cs d) (ok d h)))
       (λ h. rw (past cs' d short' (rw invalidated-size h), past cs d short h) (drops_none n absent (absent-holds n))) (cases_lt d (length cs))
 
+  -- its tier has then given up the block
+  others-give_up : (d : ℕ) → d ≢ c → tier_at cs' d ≡ after (tier_at cs d) (take n)
+  others-give_up d ne = ⊎_elim
+      (λ h.
+      let r : reaches c d ≡ true = rw (ne_eqb d c ne) (lt-ltb d 8 (omega arith)) in
+      ap (λ (x : CoreMeaning). x.tier) (after_message d h ∙ ap (λ b. dropped b n (core_at cs d)) r))
+      (λ h. ap (λ (x : CoreMeaning). x.tier) (past cs' d short' (rw invalidated-size h)) ∙ absent-stays (take n)
+      ∙ ap (λ (x : CoreMeaning). after x.tier (take n)) (sym (past cs d short h))) (cases_lt d (length cs))
+
+-- what each other core's tier becomes when block n is written, which its writer held with the mark k
+pub giving_up : (k : Mark) (cs : List CoreMeaning) (c n : ℕ) → length cs ≤ 8 → (d : ℕ) → d ≢ c
+    → tier_at (alone_cores (eqb (mark_number k) 1) c n cs) d ≡ given_up k n (tier_at cs d)
+giving_up Shared cs c n short d ne = others-give_up cs short c n d ne
+giving_up Modified cs c n short d ne = refl
+
 -- core c becomes the only holder; it was already where b is true
 pub alone : (b : Bool) (cs : List CoreMeaning) (c n : ℕ) → length cs ≤ 8 → ((d : ℕ) → d < length cs → Lawful (tier_at cs d))
     → (b ≡ true → (d : ℕ) → d ≢ c → held (tier_at cs d) n ≡ None) → Alone cs (alone_cores b c n cs) c n
@@ -194,3 +218,34 @@ wanted cs c n short e =
       waits = ap (λ (x : CoreMeaning). x.state) (at_place cs W.d short) ∙ W.state;
       block = W.block;
     }
+
+-- where nobody is awaited, no other core waits
+neither : (p q : Bool) → (p || q) ≡ false → (p ≡ false) × (q ≡ false)
+neither false q e = (refl, e)
+neither true q e = absurd (false≢true (sym e))
+
+unawaiting : (i c n : ℕ) (cs : List CoreMeaning) → awaited i c n cs ≡ false → (d j : ℕ) → j ≡ i + d → j < 8 → j ≢ c → d < length cs
+    → (a : Access) → (get_or cs d absent).state ≡ Waiting a → block_of a ≡ n → ⊥
+unfolding awaited
+unawaiting i c n [] e d j q lt ne h a w z = absurd (not-suc-le-zero h)
+unawaiting i c n (x ∷ xs) e zero j q lt ne h a w z =
+    let is : i ≡ j = omega (arith, q) in
+    let r : reaches c i ≡ true = rw (is, ne_eqb j c ne) (lt-ltb j 8 lt) in
+    let t : awaits n x.state ≡ true = ap (awaits n) w ∙ eq-eqb (block_of a) n z in
+    let both : (reaches c i && awaits n x.state) ≡ true = rw (r, t) refl in
+    false≢true (sym (neither (reaches c i && awaits n x.state) (awaited (suc i) c n xs) e).0 ∙ both)
+unawaiting i c n (x ∷ xs) e (suc d) j q lt ne h a w z =
+    unawaiting (suc i) c n xs (neither (reaches c i && awaits n x.state) (awaited (suc i) c n xs) e).1 d j (omega (arith, q)) lt ne (le_of_suc-le-suc h) a w z
+
+-- a core that is not there does not wait
+idle : (a : Access) → ◌≡◌ {A = CoreState} Ready (Waiting a) → ⊥
+idle a e = let z : ◌≡◌ {A = ℕ} 0 1 = cc in omega arith
+
+absent-ready : absent.state ≡ Ready
+unfolding absent
+absent-ready = refl
+
+pub unwanted : (cs : List CoreMeaning) (c n : ℕ) → length cs ≤ 8 → awaited 0 c n cs ≡ false → Wanted c n cs → ⊥
+unwanted cs c n short e W = ⊎_elim
+    (λ h. unawaiting 0 c n cs e W.core W.core (omega arith) (omega (arith, h, short)) W.other h W.wanted (ap (λ (x : CoreMeaning). x.state) (sym (at_place cs W.core short)) ∙ W.waits) W.block)
+    (λ h. idle W.wanted (sym absent-ready ∙ ap (λ (x : CoreMeaning). x.state) (sym (past cs W.core short h)) ∙ W.waits)) (cases_lt W.core (length cs))

@@ -1,7 +1,7 @@
 -- Every step keeps what is known of a run, and its answer is honest.
 use Rattle.std.proofs.Common.{◌≡◌, ℕ, ◌<◌, Bool, true, false, cond, eqb, ltb, List, [], length, Some, None, Option, sym, refl, ap, ◌∙◌, add-zero, arith}
 use native.Mathlib.Decide.{ℕ_discrete}
-use Rattle.std.proofs.lemmas.Bool.{ltb-true, eqb-true}
+use Rattle.std.proofs.lemmas.Bool.{ltb-true, ltb-false, eqb-true}
 use Rattle.std.proofs.lemmas.Option.{same_Some}
 use Rattle.device.specs.Device.{after}
 use Rattle.parts.specs.declared.mark.Mark.TheVariants.{Shared}
@@ -29,11 +29,11 @@ use Rattle.study.specs.Run.{RunMeaning, Outcome, most_steps}
 use Rattle.study.specs.Step.{valid, memory_taking, refused, provided, access, fetching, fetch_by, fetch, cleaning, modified_at, flush_by, flush, commit_by, commit, act, step}
 use Rattle.study.specs.Book.{Book, but, asking}
 use Rattle.study.specs.Coherence.{copy_of}
-use Rattle.study.specs.Told.{Asks, NowClean}
+use Rattle.study.specs.Told.{Asks, NowClean, Named, Because}
 use Rattle.study.proofs.Block.{Copy, shared, modified, Change, kept, joined, stored}
 use Rattle.study.proofs.Tiers.{held, lawful-after, put_holds, put-stays, put-passes, change-holds, change-others}
 use Rattle.study.proofs.Memories.{Kept, kept-after, valid-named, left-lawful, left-size, left-others, left-change}
-use Rattle.study.proofs.Rows.{Replaced, copy_here, operated_on, turned-done, wanted}
+use Rattle.study.proofs.Rows.{Replaced, copy_here, operated_on, turned-done, wanted, unwanted}
 use Rattle.study.proofs.Sound.{Sound, but_same, but-other, inside, change-sound}
 use Rattle.study.proofs.Rests.{rest-of}
 use Rattle.study.proofs.Accesses.{Stands, Inv, Good, silent, stands-less, stands_replaced, Credits, resume_credits, access-good}
@@ -60,6 +60,16 @@ not_owed (Some h) s e x =
     let z : h.0 ≡ 1 = ap (λ (y : Copy). y.0) p in
     never h.1 (sym e ∙ ap (λ i. cond (eqb i 1) (Some h.1) None) z)
 
+-- the three states are apart
+ready-waiting : (a : Access) → ◌≡◌ {A = CoreState} Ready (Waiting a) → ⊥
+ready-waiting a e = let z : ◌≡◌ {A = ℕ} 0 1 = cc in omega arith
+
+ready-due : (a : Access) → ◌≡◌ {A = CoreState} Ready (Due a) → ⊥
+ready-due a e = let z : ◌≡◌ {A = ℕ} 0 1 = cc in omega arith
+
+waiting-due : (a a' : Access) → ◌≡◌ {A = CoreState} (Waiting a) (Due a') → ⊥
+waiting-due a a' e = let z : ◌≡◌ {A = ℕ} 0 1 = cc in omega arith
+
 module _ (r : RunMeaning) (b : Book) (I : Inv r b) where
   abbrev cs : List CoreMeaning
   cs = r.cores
@@ -70,12 +80,12 @@ module _ (r : RunMeaning) (b : Book) (I : Inv r b) where
   S : Sound cs m b.number
   S = I.sound
 
-  refused-good : (k : Call) (e : Refusal) → Good r b k (refused r e)
-  refused-good k e = record { inv = I; told = refl; honest = silent }
+  refused-good : (k : Call) (e : Refusal) → Because k r e → Good r b k (refused r e)
+  refused-good k e why = record { inv = I; told = (refl, refl, why); honest = silent }
 
-  provided-good : (k : Call) (x : Bool) (e : Refusal) (o : Outcome) → (x ≡ true → Good r b k o) → Good r b k (provided x e r o)
-  provided-good k true e o f = f refl
-  provided-good k false e o f = refused-good k e
+  provided-good : (k : Call) (x : Bool) (e : Refusal) (o : Outcome) → (x ≡ false → Because k r e) → (x ≡ true → Good r b k o) → Good r b k (provided x e r o)
+  provided-good k true e o why f = f refl
+  provided-good k false e o why f = refused-good k e (why refl)
 
   -- an access that the call names, and one that was due
   named-good : (k : Call) (a : Access) → Asks k (state_at cs (core_of k)) a → Credits k a → asking k b.asked ≡ but b.asked (core_of k) (block_of a) → core_of k < length cs → block_of a < size_of m
@@ -136,19 +146,21 @@ module _ (r : RunMeaning) (b : Book) (I : Inv r b) where
                 memory = left-others m S.memory out n (put-stays t ok n Shared s free) ∙ v;
                 holds = ap (λ (x : CoreMeaning). look_of x.tier n) R.here ∙ (ok []).put_in n Shared s free;
                 due = ap (λ (x : CoreMeaning). x.state) R.here;
+                tier = ap (λ (x : CoreMeaning). x.tier) R.here;
                 others = R.there;
                 rest = rest-of r _ c n (after t (put n Shared s)) out S.memory (inside cs m b.number S c) (λ j ne. copy_here cs _ c _ R j) (λ j ne. refl)
                     (λ j ne. put-passes t ok n Shared s free j ne) (put-stays t ok n Shared s free);
+                charged = refl;
               },
             );
             honest = silent;
           }
 
-    fetch-good : (a : Access) → state_at cs c ≡ Waiting a → Good r b (Fetch c) (fetch r c a)
-    fetch-good a e = go (valid m (block_of a)) refl
+    fetch-good : Named (Fetch c) r → (a : Access) → state_at cs c ≡ Waiting a → Good r b (Fetch c) (fetch r c a)
+    fetch-good N a e = go (valid m (block_of a)) refl
       where
         go : (o : Option ℕ) → valid m (block_of a) ≡ o → Good r b (Fetch c) (fetch_by r c a o)
-        go None v = refused-good (Fetch c) StaleBlock
+        go None v = refused-good (Fetch c) StaleBlock (N, refl, a, e, v)
         go (Some s) v = fetching-good a s e v
 
     -- memory takes its modified copy of block n
@@ -172,7 +184,7 @@ module _ (r : RunMeaning) (b : Book) (I : Inv r b) where
       R : Replaced cs cs' c (core t' (state_at cs c))
       R = operated_on cs c (ToChange (line n Shared s)) (core_at cs c) refl S.short lt
 
-      cleaned : (x : Answer) → NowClean c n r (cleaning r c n s x).run
+      cleaned : (x : Answer) → NowClean c n r (cleaning r c n s x).run (cleaning r c n s x).charge
       cleaned x =
           let held = level_of (look_of t n) (modified s) e in
           record {
@@ -182,8 +194,10 @@ module _ (r : RunMeaning) (b : Book) (I : Inv r b) where
             holds = ap (λ (x : CoreMeaning). look_of x.tier n) R.here ∙ (ok []).change_in n Shared s _ held.1;
             memory = valid-named m S.memory (store n s) (inside cs m b.number S c n (modified s) e);
             state = ap (λ (x : CoreMeaning). x.state) R.here;
+            tier = ap (λ (x : CoreMeaning). x.tier) R.here;
             others = R.there;
             rest = λ j ne. (copy_here cs cs' c _ R j ∙ change-others t ok n Shared s j ne, K.others j ne);
+            charged = add-zero _;
           }
 
       cleaning-keeps : (x : Answer) → Inv (cleaning r c n s x).run b
@@ -197,46 +211,46 @@ module _ (r : RunMeaning) (b : Book) (I : Inv r b) where
           less : (j : ℕ) → held t j ≡ None → held t' j ≡ None
           less j z = change-others t ok n Shared s j (λ q. none-some (held t n) (modified s) (sym (ap (held t) q) ∙ z) e) ∙ z
 
-    flush-good : (n : ℕ) → Good r b (Flush c n) (flush r c n)
-    flush-good n = go (modified_at r c n) refl
+    flush-good : (n : ℕ) → Named (Flush c n) r → Good r b (Flush c n) (flush r c n)
+    flush-good n N = go (modified_at r c n) refl
       where
         go : (o : Option ℕ) → modified_at r c n ≡ o → Good r b (Flush c n) (flush_by r c n o)
-        go None e = refused-good (Flush c n) NotOwed
-        go (Some s) e = provided-good (Flush c n) (awaited 0 c n cs) NotOwed _
+        go None e = refused-good (Flush c n) NotOwed (N, n, refl, λ s x W. not_owed (look_of t n) s e x)
+        go (Some s) e = provided-good (Flush c n) (awaited 0 c n cs) NotOwed _ (λ x. (N, n, refl, λ i y W. unwanted cs c n S.short x W))
             (λ x. record { inv = cleaning-keeps n s (owed_held _ s e) (Flushed n); told = (refl, wanted cs c n S.short x, cleaned n s (owed_held _ s e) (Flushed n)); honest = silent })
 
     commit-good : (n : ℕ) → Good r b (Commit c n) (commit r c n)
     commit-good n = go (modified_at r c n) refl
       where
         go : (o : Option ℕ) → modified_at r c n ≡ o → Good r b (Commit c n) (commit_by r c n o)
-        go None e = record { inv = record { sound = S; states = I.states; count = add-zero _ ∙ I.count }; told = (n, refl, ((λ s x. not_owed (look_of t n) s e x), refl, refl)); honest = silent }
+        go None e = record { inv = record { sound = S; states = I.states; count = add-zero _ ∙ I.count }; told = (n, refl, ((λ s x. not_owed (look_of t n) s e x), refl, refl, refl)); honest = silent }
         go (Some s) e = record { inv = cleaning-keeps n s (owed_held _ s e) (Committed true); told = (n, refl, cleaned n s (owed_held _ s e) (Committed true)); honest = silent }
 
-  act-good : (k : Call) → core_of k < length cs → fits_in (size_of m) k ≡ true → (s : CoreState) → state_at cs (core_of k) ≡ s → Good r b k (act r k s)
-  act-good (Read c n) lt h Ready e = named-good (Read c n) (ToRead n) (e, refl) tt refl lt (ltb-true n (size_of m) h)
-  act-good (Read c n) lt h (Waiting a) e = refused-good (Read c n) WrongState
-  act-good (Read c n) lt h (Due a) e = refused-good (Read c n) WrongState
-  act-good (Write c n) lt h Ready e = named-good (Write c n) (ToWrite n) (e, refl) refl refl lt (ltb-true n (size_of m) h)
-  act-good (Write c n) lt h (Waiting a) e = refused-good (Write c n) WrongState
-  act-good (Write c n) lt h (Due a) e = refused-good (Write c n) WrongState
-  act-good (Fetch c) lt h Ready e = refused-good (Fetch c) WrongState
-  act-good (Fetch c) lt h (Waiting a) e = fetch-good c lt a e
-  act-good (Fetch c) lt h (Due a) e = refused-good (Fetch c) WrongState
-  act-good (Resume c) lt h Ready e = refused-good (Resume c) WrongState
-  act-good (Resume c) lt h (Waiting a) e = refused-good (Resume c) WrongState
-  act-good (Resume c) lt h (Due a) e = resume_good c a lt e
-  act-good (Flush c n) lt h Ready e = flush-good c lt n
-  act-good (Flush c n) lt h (Waiting a) e = flush-good c lt n
-  act-good (Flush c n) lt h (Due a) e = flush-good c lt n
-  act-good (Commit c n) lt h Ready e = commit-good c lt n
-  act-good (Commit c n) lt h (Waiting a) e = refused-good (Commit c n) WrongState
-  act-good (Commit c n) lt h (Due a) e = refused-good (Commit c n) WrongState
+  act-good : (k : Call) → Named k r → core_of k < length cs → fits_in (size_of m) k ≡ true → (s : CoreState) → state_at cs (core_of k) ≡ s → Good r b k (act r k s)
+  act-good (Read c n) N lt h Ready e = named-good (Read c n) (ToRead n) (e, refl) tt refl lt (ltb-true n (size_of m) h)
+  act-good (Read c n) N lt h (Waiting a) e = refused-good (Read c n) WrongState (N, λ w. ready-waiting a (sym w ∙ e))
+  act-good (Read c n) N lt h (Due a) e = refused-good (Read c n) WrongState (N, λ w. ready-due a (sym w ∙ e))
+  act-good (Write c n) N lt h Ready e = named-good (Write c n) (ToWrite n) (e, refl) refl refl lt (ltb-true n (size_of m) h)
+  act-good (Write c n) N lt h (Waiting a) e = refused-good (Write c n) WrongState (N, λ w. ready-waiting a (sym w ∙ e))
+  act-good (Write c n) N lt h (Due a) e = refused-good (Write c n) WrongState (N, λ w. ready-due a (sym w ∙ e))
+  act-good (Fetch c) N lt h Ready e = refused-good (Fetch c) WrongState (N, λ w. ready-waiting w.0 (sym e ∙ w.1))
+  act-good (Fetch c) N lt h (Waiting a) e = fetch-good c lt N a e
+  act-good (Fetch c) N lt h (Due a) e = refused-good (Fetch c) WrongState (N, λ w. waiting-due w.0 a (sym w.1 ∙ e))
+  act-good (Resume c) N lt h Ready e = refused-good (Resume c) WrongState (N, λ w. ready-due w.0 (sym e ∙ w.1))
+  act-good (Resume c) N lt h (Waiting a) e = refused-good (Resume c) WrongState (N, λ w. waiting-due a w.0 (sym e ∙ w.1))
+  act-good (Resume c) N lt h (Due a) e = resume_good c a lt e
+  act-good (Flush c n) N lt h Ready e = flush-good c lt n N
+  act-good (Flush c n) N lt h (Waiting a) e = flush-good c lt n N
+  act-good (Flush c n) N lt h (Due a) e = flush-good c lt n N
+  act-good (Commit c n) N lt h Ready e = commit-good c lt n
+  act-good (Commit c n) N lt h (Waiting a) e = refused-good (Commit c n) WrongState (N, λ w. ready-waiting a (sym w ∙ e))
+  act-good (Commit c n) N lt h (Due a) e = refused-good (Commit c n) WrongState (N, λ w. ready-due a (sym w ∙ e))
 
   pub step-good : (k : Call) → Good r b k (step r k)
   unfolding step
   step-good k =
-      provided-good k (ltb r.tally.steps most_steps) TooManySteps _ λ x.
-      provided-good k (ltb (core_of k) (count_of cs)) NoSuchCore _ λ y.
-      provided-good k (fits_in (size_of m) k) NoSuchBlock _ λ z.
+      provided-good k (ltb r.tally.steps most_steps) TooManySteps _ (λ x. ltb-false _ _ x) λ x.
+      provided-good k (ltb (core_of k) (count_of cs)) NoSuchCore _ (λ y. (ltb-true _ _ x, ltb-false _ _ y)) λ y.
+      provided-good k (fits_in (size_of m) k) NoSuchBlock _ (λ z. (ltb-true _ _ x, ltb-true _ _ y, z)) λ z.
       let lt : core_of k < length cs = omega (arith, ltb-true _ _ y) in
-      act-good k lt z (state_at cs (core_of k)) refl
+      act-good k (record { room = ltb-true _ _ x; core = ltb-true _ _ y; block = z }) lt z (state_at cs (core_of k)) refl

@@ -3,6 +3,7 @@ use Rattle.std.proofs.Common.{◌≡◌, ℕ, zero, suc, ◌+◌, ◌<◌, ◌�
 use mathlib.Core.Bool.{false≢true}
 use native.Mathlib.Decide.{ℕ_discrete}
 use Rattle.std.proofs.lemmas.Bool.{cases_lt}
+use Rattle.device.specs.Device.{after}
 use Rattle.tier.specs.Meaning.{clear, Holding, look_of, bare, Lawful as LawfulTier}
 use Rattle.tier.specs.Options.{never, none-some}
 use Rattle.memory.specs.Meaning.{MemoryMeaning, store, size_of, Lawful as LawfulMemory}
@@ -20,6 +21,7 @@ use Rattle.study.specs.Play.{played, history}
 use Rattle.study.specs.Book.{Book, new_book, noted, HonestFrom}
 use Rattle.study.specs.Coherence.{copy_of, Coherent, Unmet}
 use Rattle.study.specs.Told.{Tells}
+use Rattle.study.specs.Warrant.{Becomes}
 use Rattle.study.proofs.Block.{Copy, shared, modified, AtMostShared, Consistent, clean, owned, owner, sharer, stamped}
 use Rattle.study.proofs.Tiers.{held, lawful-after}
 use Rattle.study.proofs.Memories.{valid-named, valid-others}
@@ -27,6 +29,7 @@ use Rattle.study.proofs.Rows.{at_place, past, absent-holds, absent_shows, Replac
 use Rattle.study.proofs.Sound.{Sound, inside}
 use Rattle.study.proofs.Accesses.{Inv}
 use Rattle.study.proofs.Steps.{step-good}
+use Rattle.study.proofs.Calling.{still, then_becomes, turns}
 
 -- a block that no core owns is clean
 unowned : (k : ℕ) (h : ℕ → Option Copy) (v : Option ℕ) → Consistent k h v → ((c s : ℕ) → h c ≡ Some (modified s) → ⊥)
@@ -84,11 +87,11 @@ renewed-empty [] ok d n = absent-holds n
 renewed-empty (x ∷ xs) ok zero n = ap bare ((ok.0 []).clear_gone n)
 renewed-empty (x ∷ xs) ok (suc d) n = renewed-empty xs ok.1 d n
 
-renewed_ready : (cs : List CoreMeaning) (d : ℕ) → (get_or (renewed cs) d absent).state ≡ Ready
+renewed-at : (cs : List CoreMeaning) (d : ℕ) → get_or (renewed cs) d absent ≡ core (after (get_or cs d absent).tier clear) Ready
 unfolding renewed absent
-renewed_ready [] d = refl
-renewed_ready (x ∷ xs) zero = refl
-renewed_ready (x ∷ xs) (suc d) = renewed_ready xs d
+renewed-at [] d = refl
+renewed-at (x ∷ xs) zero = refl
+renewed-at (x ∷ xs) (suc d) = renewed-at xs d
 
 -- a study that opens
 module _ (cs : List CoreMeaning) (m : MemoryMeaning) (w : Prices) (few : count_of cs ≤ 8) (ok : AllLawful cs) (okm : LawfulMemory m) where
@@ -98,8 +101,11 @@ module _ (cs : List CoreMeaning) (m : MemoryMeaning) (w : Prices) (few : count_o
   at : (d : ℕ) → core_at (renewed cs) d ≡ get_or (renewed cs) d absent
   at d = at_place (renewed cs) d short
 
-  empty : (d n : ℕ) → copy_of (renewed cs) d n ≡ None
-  empty d n = ap (λ (x : CoreMeaning). held x.tier n) (at d) ∙ renewed-empty cs ok d n
+  pub fresh : (d : ℕ) → core_at (renewed cs) d ≡ core (after (tier_at cs d) clear) Ready
+  fresh d = at d ∙ renewed-at cs d ∙ ap (λ (x : CoreMeaning). core (after x.tier clear) Ready) (sym (at_place cs d (omega arith)))
+
+  pub vacant : (d n : ℕ) → copy_of (renewed cs) d n ≡ None
+  vacant d n = ap (λ (x : CoreMeaning). held x.tier n) (at d) ∙ renewed-empty cs ok d n
 
   opened-inv : Inv (opened cs m w) new_book
   opened-inv =
@@ -109,10 +115,10 @@ module _ (cs : List CoreMeaning) (m : MemoryMeaning) (w : Prices) (few : count_o
           short = short;
           tiers = λ d h. subst (λ (x : CoreMeaning). LawfulTier x.tier) (sym (at d)) (renewed-lawful cs ok d (rw (renewed-size cs) at h));
           memory = Z.lawful;
-          blocks = λ n h. clean (Z.zeros n (rw Z.size at h)) (λ c x e. none-some (copy_of (renewed cs) c n) x (empty c n) e);
-          outside = λ n h d. empty d n;
+          blocks = λ n h. clean (Z.zeros n (rw Z.size at h)) (λ c x e. none-some (copy_of (renewed cs) c n) x (vacant c n) e);
+          outside = λ n h d. vacant d n;
         };
-        states = λ d. rw (ap (λ (x : CoreMeaning). x.state) (at d) ∙ renewed_ready cs d) tt;
+        states = λ d. rw (fresh d) tt;
         count = refl;
       }
 
@@ -126,6 +132,14 @@ played-honest : (ks : List Call) (r : RunMeaning) (b : Book) → Inv r b → Hon
 unfolding history HonestFrom
 played-honest [] r b I = tt
 played-honest (k ∷ ks) r b I = ((step-good r b I k).honest, played-honest ks (step r k).run (noted b k (word_of (step r k).answer)) (step-good r b I k).inv)
+
+played-tiers : (ks : List Call) (r : RunMeaning) (b : Book) → Inv r b → (c : ℕ) → Becomes (tier_at r.cores c) (tier_at (played r ks).cores c)
+unfolding played
+played-tiers [] r b I c = still (tier_at r.cores c)
+played-tiers (k ∷ ks) r b I c =
+    let G = step-good r b I k in
+    then_becomes _ (tier_at (step r k).run.cores c) _ (turns r (step r k).run c k (step r k).answer (step r k).charge G.told)
+    (played-tiers ks (step r k).run (noted b k (word_of (step r k).answer)) G.inv c)
 
 -- where one copy is shared, no copy is modified
 at_most : (k : ℕ) (o : Option Holding) → AtMostShared k (bare o) → modified_stamp o ≡ None
@@ -178,6 +192,9 @@ module _ (cs : List CoreMeaning) (m : MemoryMeaning) (w : Prices) (few : count_o
 
   pub told : (ks : List Call) (k : Call) → Tells (played (opened cs m w) ks) k
   told ks k = (step-good _ (at_end ks).0 (at_end ks).1 k).told
+
+  pub tiers-called : (ks : List Call) (c : ℕ) → Becomes (tier_at (opened cs m w).cores c) (tier_at (played (opened cs m w) ks).cores c)
+  tiers-called ks c = played-tiers ks (opened cs m w) new_book start c
 
   pub coherence : (ks : List Call) → Coherent (played (opened cs m w) ks).cores (played (opened cs m w) ks).memory
   coherence ks = coherent _ _ _ (at_end ks).1.sound

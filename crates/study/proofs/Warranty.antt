@@ -2,15 +2,18 @@
 use Rattle.study.specs.Warrant.{Warrant}
 use Rattle.study.proofs.Stacking.{piles}
 use Rattle.study.proofs.Counting.{reported}
-use Rattle.study.proofs.Theorem.{zeros, told, coherence, unmet, honest}
+use Rattle.study.proofs.Theorem.{fresh, vacant, zeros, told, tiers-called, coherence, unmet, honest}
 
 pub warrant : Warrant
-warrant cs m w few tiers memory fair = record {
+warrant cs m w few ok memory fair = record {
   piles = piles;
-  zeros = zeros cs m w few tiers memory;
-  told = told cs m w few tiers memory;
-  coherent = coherence cs m w few tiers memory;
-  unmet = unmet cs m w few tiers memory;
-  honest = honest cs m w few tiers memory;
+  fresh = fresh cs m w few ok memory;
+  empty = vacant cs m w few ok memory;
+  zeros = zeros cs m w few ok memory;
+  told = told cs m w few ok memory;
+  tiers = tiers-called cs m w few ok memory;
+  coherent = coherence cs m w few ok memory;
+  unmet = unmet cs m w few ok memory;
+  honest = honest cs m w few ok memory;
   reported = reported cs m w fair;
 }

@@ -3,7 +3,7 @@ use Rattle.std.specs.Prelude.{◌≡◌, ℕ, ◌+◌, Bool, true, false, cond, 
 use Rattle.protocol.specs.declared.answer.Answer.{Answer}
 use Rattle.protocol.specs.declared.answer.Word.{Word}
 use Rattle.protocol.specs.declared.call.Call.{Call}
-use Rattle.protocol.specs.declared.call.Call.TheVariants.{Read, Write, Fetch, Resume, Flush, Commit}
+use Rattle.protocol.specs.declared.call.Call.TheVariants.{Read, Write, Resume}
 use Rattle.protocol.specs.declared.refusal.Refusal.{Refusal}
 use Rattle.protocol.specs.Answers.{word_of, value_of}
 use Rattle.protocol.specs.Calls.{core_of}
@@ -27,10 +27,7 @@ but f k v x = cond (x == k) v (f x)
 abbrev pub asking : Call → (ℕ → ℕ) → ℕ → ℕ
 asking (Read c n) f = but f c n
 asking (Write c n) f = but f c n
-asking (Fetch c) f = f
-asking (Resume c) f = f
-asking (Flush c n) f = f
-asking (Commit c n) f = f
+asking _ f = f
 
 -- an accepted read or write sets its core's block
 abbrev pub heard : Book → Call → Word → Book
@@ -42,12 +39,9 @@ entered c b = record { count = b.count + 1; number = but b.number (b.asked c) (b
 
 -- the word wrote is credited to a write or a resume
 abbrev pub may_write : Call → Bool
-may_write (Read c n) = false
 may_write (Write c n) = true
-may_write (Fetch c) = false
 may_write (Resume c) = true
-may_write (Flush c n) = false
-may_write (Commit c n) = false
+may_write _ = false
 
 -- the book after a call and the word of its answer
 abbrev pub noted : Book → Call → Word → Book

@@ -161,23 +161,12 @@ commit r c n = commit_by r c n (modified_at r c n)
 -- what a call does depends on the state of its core
 abbrev pub act : RunMeaning → Call → CoreState → Outcome
 act r (Read c n) Ready = access r c (ToRead n)
-act r (Read c n) (Waiting a) = refused r WrongState
-act r (Read c n) (Due a) = refused r WrongState
 act r (Write c n) Ready = access r c (ToWrite n)
-act r (Write c n) (Waiting a) = refused r WrongState
-act r (Write c n) (Due a) = refused r WrongState
-act r (Fetch c) Ready = refused r WrongState
 act r (Fetch c) (Waiting a) = fetch r c a
-act r (Fetch c) (Due a) = refused r WrongState
-act r (Resume c) Ready = refused r WrongState
-act r (Resume c) (Waiting a) = refused r WrongState
 act r (Resume c) (Due a) = access r c a
-act r (Flush c n) Ready = flush r c n
-act r (Flush c n) (Waiting a) = flush r c n
-act r (Flush c n) (Due a) = flush r c n
+act r (Flush c n) _ = flush r c n
 act r (Commit c n) Ready = commit r c n
-act r (Commit c n) (Waiting a) = refused r WrongState
-act r (Commit c n) (Due a) = refused r WrongState
+act r _ _ = refused r WrongState
 
 -- the questions that are put to every call, in this order, and then the call
 unfoldable pub step : RunMeaning → Call → Outcome

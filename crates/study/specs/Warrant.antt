@@ -1,18 +1,19 @@
 -- The warrant: what holds of every study, whatever its tiers, its memory and its schedule.
 use Rattle.std.specs.Prelude.{◌≡◌, ℕ, ◌<◌, ◌≤◌, List, Some}
-use Rattle.device.specs.Device.{after}
-use Rattle.tier.specs.Meaning.{TierMeaning, clear, Lawful as LawfulTier}
+use Rattle.device.specs.Device.{after, reach}
+use Rattle.tier.specs.Meaning.{TierMeaning, TierCall, clear, Lawful as LawfulTier}
 use Rattle.tier.specs.Pile.{pile}
 use Rattle.tier.specs.Stacked.{StaysStacked}
 use Rattle.memory.specs.Meaning.{MemoryMeaning, size_of, Lawful as LawfulMemory}
+use Rattle.protocol.specs.declared.access.CoreState.TheVariants.{Ready}
 use Rattle.protocol.specs.declared.call.Call.{Call}
 use Rattle.protocol.specs.declared.weights.Prices.{Prices}
 use Rattle.protocol.specs.Prices.{Affordable}
-use Rattle.row.specs.Cores.{CoreMeaning, most_cores, count_of, AllLawful}
+use Rattle.row.specs.Cores.{CoreMeaning, core, most_cores, count_of, core_at, tier_at, AllLawful}
 use Rattle.study.specs.Step.{valid}
 use Rattle.study.specs.Opening.{opened}
 use Rattle.study.specs.Play.{played, history}
-use Rattle.study.specs.Coherence.{Coherent, Unmet}
+use Rattle.study.specs.Coherence.{Lacks, Coherent, Unmet}
 use Rattle.study.specs.Told.{Tells}
 use Rattle.study.specs.Book.{new_book, HonestFrom}
 use Rattle.study.specs.Report.{Reported}
@@ -23,12 +24,21 @@ abbrev pub Piles : Type 0
 Piles = (u l : TierMeaning) → LawfulTier u → LawfulTier l
     → LawfulTier (pile u l) × StaysStacked (pile (after u clear) (after l clear)) (after u clear) (after l clear)
 
+-- some calls of the tier t make the tier t' of it
+abbrev pub Becomes : TierMeaning → TierMeaning → Type 0
+Becomes t t' = (ts : List TierCall) × (t' ≡ reach t ts)
+
 -- of the study of these cores and this memory at these prices, and every list of calls from its opening on
 pub record Warranted (cs : List CoreMeaning) (m : MemoryMeaning) (w : Prices) : Type 0 where
   pub piles : Piles
-  -- opening leaves every block of the memory valid with stamp 0
+  -- opening clears the tier of every core, which is ready and holds nothing
+  pub fresh : (c : ℕ) → core_at (opened cs m w).cores c ≡ core (after (tier_at cs c) clear) Ready
+  pub empty : (c n : ℕ) → Lacks (opened cs m w).cores c n
+  -- and leaves every block of the memory valid with stamp 0
   pub zeros : (n : ℕ) → n < size_of m → valid (opened cs m w).memory n ≡ Some 0
   pub told : (ks : List Call) (k : Call) → Tells (played (opened cs m w) ks) k
+  -- each core's tier is what calls of a tier have made of the one that was opened
+  pub tiers : (ks : List Call) (c : ℕ) → Becomes (tier_at (opened cs m w).cores c) (tier_at (played (opened cs m w) ks).cores c)
   pub coherent : (ks : List Call) → Coherent (played (opened cs m w) ks).cores (played (opened cs m w) ks).memory
   pub unmet : (ks : List Call) → Unmet (played (opened cs m w) ks)
   pub honest : (ks : List Call) → HonestFrom new_book (history (opened cs m w) ks)

@@ -2,38 +2,23 @@
 use Rattle.std.specs.Prelude.{ℕ, ◌+◌, Bool, true, false, cond, List, [], ◌∷◌, Some, None, Option, Result}
 use Rattle.protocol.specs.declared.answer.Answer.{Answer}
 use Rattle.protocol.specs.declared.answer.Word.{Word}
-use Rattle.protocol.specs.declared.answer.Word.TheVariants.{Waits, Brought, Read, Wrote, Flushed, Committed, Refused}
+use Rattle.protocol.specs.declared.answer.Word.TheVariants.{Read, Wrote, Refused}
 use Rattle.protocol.specs.declared.refusal.Refusal.{Refusal}
 use Rattle.protocol.specs.Answers.{word_of}
 use Rattle.study.specs.declared.turn.Played.{Played}
 use Rattle.study.specs.declared.turn.Turn.{Turn}
 
 abbrev pub is_accepted : Word → Bool
-is_accepted Waits = true
-is_accepted Brought = true
-is_accepted Read = true
-is_accepted Wrote = true
-is_accepted Flushed = true
-is_accepted Committed = true
 is_accepted Refused = false
+is_accepted _ = true
 
 abbrev pub is_read : Word → Bool
-is_read Waits = false
-is_read Brought = false
 is_read Read = true
-is_read Wrote = false
-is_read Flushed = false
-is_read Committed = false
-is_read Refused = false
+is_read _ = false
 
 abbrev pub is_wrote : Word → Bool
-is_wrote Waits = false
-is_wrote Brought = false
-is_wrote Read = false
 is_wrote Wrote = true
-is_wrote Flushed = false
-is_wrote Committed = false
-is_wrote Refused = false
+is_wrote _ = false
 
 -- read or wrote
 abbrev pub is_access : Word → Bool

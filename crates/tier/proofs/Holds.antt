@@ -19,7 +19,7 @@ module _ (m : TierMeaning) (ok : Lawful m) where
   change-same n k s b = elim (ℕ_discrete b n) [ no q ↦ ap is_some ((ok []).change_rest n k s b q) | yes q ↦ go (look_of m n) refl q ]
     where
       go : (o : Option Holding) → look_of m n ≡ o → b ≡ n → is_some (look_of (after m (change n k s)) b) ≡ is_some (look_of m b)
-      go None e q = ap (λ x. is_some (look_of x b)) ((ok []).change_free n k s e)
+      go None e q = ap (λ i. is_some (look_of (after m (change n k s)) i)) q ∙ ap is_some ((ok []).change_free n k s e) ∙ sym (ap is_some (ap (look_of m) q ∙ e))
       go (Some h) e q = ap (λ i. is_some (look_of (after m (change n k s)) i)) q ∙ ap is_some ((ok []).change_in n k s h e) ∙ sym (ap is_some (ap (look_of m) q ∙ e))
 
   pub touch-same : (n : ℕ) → SameBlocks m (after m (touch n))
@@ -33,7 +33,7 @@ module _ (m : TierMeaning) (ok : Lawful m) where
       kept e nw = sym (bare-held (look_of m b)) ∙ sym (ap is_some ((ok []).put_rest n k s b e ne nw)) ∙ bare-held (look_of (after m (put n k s)) b) ∙ h
 
       go : (o : Option Holding) (w : Option Line) → look_of m n ≡ o → out_of m n k s ≡ w → is_some (look_of m b) ≡ true
-      go (Some x) w e q = sym (ap (λ y. is_some (look_of y b)) ((ok []).put_held n k s (is_some_lem (look_of m n) x e))) ∙ h
+      go (Some x) w e q = sym (ap is_some ((ok []).put_held n k s b (is_some_lem (look_of m n) x e))) ∙ h
       go None None e q = kept e (λ r. never b (sym (ap (option_map (λ (g : Line). g.block)) q) ∙ r))
       go None (Some g) e q = elim (ℕ_discrete g.block b) [
         | yes z ↦ never _ (sym (ap (look_of (after m (put n k s))) (sym z) ∙ (ok []).out_gone n k s g e q) ∙ (some_of (look_of (after m (put n k s)) b) h).1)

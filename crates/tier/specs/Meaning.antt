@@ -84,11 +84,9 @@ pub record TierLaws (m : TierMeaning) : Type 0 where
   -- touch leaves the holding, clear leaves nothing
   pub touch_look : (n b : ℕ) → look_of (after m (touch n)) b ≡ look_of m b
   pub clear_gone : (n : ℕ) → look_of (after m clear) n ≡ None
-  -- a refused call alters nothing, and neither does a take of a block that is not held
-  pub put_held : (n : ℕ) (k : Mark) (s : ℕ) → is_some (look_of m n) ≡ true → after m (put n k s) ≡ m
-  pub take_free : (n : ℕ) → look_of m n ≡ None → after m (take n) ≡ m
-  pub change_free : (n : ℕ) (k : Mark) (s : ℕ) → look_of m n ≡ None → after m (change n k s) ≡ m
-  pub touch_free : (n : ℕ) → look_of m n ≡ None → after m (touch n) ≡ m
+  -- a refused call alters nothing that is held
+  pub put_held : (n : ℕ) (k : Mark) (s b : ℕ) → is_some (look_of m n) ≡ true → look_of (after m (put n k s)) b ≡ look_of m b
+  pub change_free : (n : ℕ) (k : Mark) (s : ℕ) → look_of m n ≡ None → look_of (after m (change n k s)) n ≡ None
 
 -- they hold now, and after any list of calls
 abbrev pub Lawful : TierMeaning → Type 0

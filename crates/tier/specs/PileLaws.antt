@@ -5,7 +5,7 @@ use Rattle.std.proofs.Math.Decide.{ℕ_discrete}
 use Rattle.std.specs.Option.{option_map}
 use Rattle.std.proofs.lemmas.Option.{same_Some}
 use Rattle.device.specs.Device.{after, device}
-use Rattle.device.specs.Laws.{device-after, device_always}
+use Rattle.device.specs.Laws.{device_always}
 use Rattle.parts.specs.declared.mark.Mark.{Mark}
 use Rattle.parts.specs.declared.line.Line.{Line}
 use Rattle.parts.specs.Marks.{mark_number}
@@ -72,10 +72,6 @@ stays p clear = refl
 
 abbrev pub at : Parts → TierMeaning
 at p = device pile_depth pile_view pile_step p
-
--- a call that alters no part alters nothing
-same_after : (p : Parts) (c : TierCall) → pile_step p c ≡ p → after (at p) c ≡ at p
-same_after p c e = sym (device-after pile_depth pile_view pile_step stays p c) ∙ ap at e
 
 abbrev pub Sound : Parts → Type 0
 Sound p = Lawful p.upper × Lawful p.lower
@@ -258,9 +254,6 @@ module _ (p : Parts) (ok : Sound p) where
   rest_of None c b eu el = ap (first d (look_of u b)) el
   rest_of (Some x) c b eu el = ap (λ a. first d a (look_of l b)) eu
 
-  free_of : (n : ℕ) (c : TierCall) → pile_look p n ≡ None → (look_of l n ≡ None → after l c ≡ l) → to_shown p n c ≡ p
-  free_of n c e h = let r = both_none d (look_of u n) (look_of l n) e in held_none (look_of u n) _ _ r.0 ∙ ap (parts u) (h r.1)
-
   laws : TierLaws (at p)
   laws =
       let lowu = hu.depth_low in
@@ -280,12 +273,10 @@ module _ (p : Parts) (ok : Sound p) where
         change_rest = λ n k s b ne. rest_of (look_of u n) (change n k s) b (hu.change_rest n k s b ne) (hl.change_rest n k s b ne);
         touch_look = λ n b. rest_of (look_of u n) (touch n) b (hu.touch_look n b) (hl.touch_look n b);
         clear_gone = λ n. first-same d _ None _ None (hu.clear_gone n) (hl.clear_gone n);
-        put_held = λ n k s h. same_after p (put n k s) (held-some (pile_look p n) _ _ h);
-        take_free = λ n e.
+        put_held = λ n k s b h. ap (λ q. pile_look q b) (held-some (pile_look p n) _ _ h);
+        change_free = λ n k s e.
             let r = both_none d (look_of u n) (look_of l n) e in
-            same_after p (take n) (ap (λ m. parts m (after l (take n))) (hu.take_free n r.0) ∙ ap (parts u) (hl.take_free n r.1));
-        change_free = λ n k s e. same_after p (change n k s) (free_of n (change n k s) e (hl.change_free n k s));
-        touch_free = λ n e. same_after p (touch n) (free_of n (touch n) e (hl.touch_free n));
+            ap (λ q. pile_look q n) (held_none (look_of u n) _ _ r.0) ∙ first-same d _ None _ None r.0 (hl.change_free n k s r.1);
       }
 
 pub pile-lawful : (u l : TierMeaning) → Lawful u → Lawful l → Lawful (pile u l)

@@ -53,9 +53,6 @@ fn sink_into<L: Tier>(lower: &mut L, line: Line) -> Option<Line>
     ensures answer { result ≡ sunk (L.Tier.meaning lower.old) (Some line) }
     ensures next { L.Tier.meaning lower.new ≡ sink (L.Tier.meaning lower.old) (Some line) }
 {
-    if let Ok(out) = lower.put(line) {
-        return out;
-    }
     let _ = lower.take(line.block);
     lower.put(line).unwrap_or(None)
 }
@@ -81,7 +78,7 @@ impl<U: Tier, L: Tier> Tier for Pile<U, L> {
 
     // The upper refuses a block that it holds, and a refused put alters nothing: only the lower is asked first.
     fn put(&mut self, line: Line) -> Result<Option<Line>, Refusal> {
-        if self.lower.look(line.block).is_some() {
+        if self.upper.look(line.block).is_some() || self.lower.look(line.block).is_some() {
             return Err(Refusal::AlreadyHeld);
         }
         let Some(fallen) = self.upper.put(line)? else {
