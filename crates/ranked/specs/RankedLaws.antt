@@ -13,7 +13,7 @@ use Rattle.tier.specs.Meaning.{TierCall, put, take, change, touch, clear, Holdin
 use Rattle.tier.specs.Options.{never, none-some, some_of}
 use Rattle.tier.specs.Holdings.{mark_low}
 use Rattle.ranks.specs.Ranks.{Ranks, find, without, oldest, younger, spared, ranked_view, touched, ranked_step, ranked, apart}
-use Rattle.ranks.proofs.RanksLemmas.{find-block, find-without, find-gone, without-none, apart-without, find-push, find-push-other, apart-push, find-renewed, find-renewed-other, renewed-none, apart-renewed, oldest_found, younger-gone, younger-rest, younger-none, apart-younger}
+use Rattle.ranks.proofs.RanksLemmas.{find-block, find-without, find-gone, apart-without, find-push, find-push-other, apart-push, find-renewed, find-renewed-other, renewed-none, apart-renewed, oldest_found, younger-gone, younger-rest, younger-none, apart-younger}
 
 abbrev pub Sound : Ranks → Type 0
 Sound ls = apart ls ≡ true

@@ -1,13 +1,11 @@
 -- What the calls of a pile's parts come to: a part that refuses is as it was, and a block that is not held need not be taken out.
-use Rattle.std.proofs.Common.{◌≡◌, ℕ, [], true, is_some, Some, None, Ok, Err, Option, Result, sym, refl, ap, ◌∙◌, arith}
+use Rattle.std.proofs.Common.{◌≡◌, ℕ, [], Ok, Err, Option, Result, ap, ◌∙◌}
 use Rattle.device.specs.Device.{after}
 use Rattle.parts.specs.declared.mark.Mark.{Mark}
 use Rattle.parts.specs.declared.line.Line.{Line}
 use Rattle.parts.specs.declared.refusal.Refusal.{Refusal}
 use Rattle.parts.specs.declared.refusal.Refusal.TheVariants.{AlreadyHeld}
-use Rattle.tier.specs.Meaning.{TierMeaning, put, take, Holding, depth_of, look_of, out_of, if_held, put_answer, Lawful}
-use Rattle.tier.specs.Pile.{first, pile}
-use Rattle.tier.specs.PileLaws.{pile-lawful}
+use Rattle.tier.specs.Meaning.{TierMeaning, take, out_of, if_held, put_answer, Lawful}
 
 -- the put of a block that was taken out is not refused
 pub put-taken : (m m' : TierMeaning) (n : ℕ) (k : Mark) (s : ℕ) (r : Result (Option Line) Refusal)

@@ -18,12 +18,12 @@ pub data TierCall : Type 0 where
   touch : ℕ → TierCall
   clear : TierCall
 
--- what is shown of a held block: the number of its mark, its stamp (the number of the write that the copy shows) and its level
+-- what is shown of a block: the number of its mark, its stamp (the number of the write that the copy shows) and its level
 -- (1 is the one next to the core)
 abbrev pub Holding : Type 0
 Holding = ℕ × ℕ × ℕ
 
--- what is seen at one moment: each block's holding, and what a put of a block, mark and stamp would give out
+-- what is seen at one moment: what look shows of each block, and what a put of a block, mark and stamp would give out
 pub record TierView : Type 0 where
   pub look : ℕ → Option Holding
   pub out : ℕ → Mark → ℕ → Option Line
@@ -38,6 +38,10 @@ depth_of m = m.fixed
 abbrev pub look_of : TierMeaning → ℕ → Option Holding
 look_of m n = (seen m).look n
 
+-- what a tier holds of a block: all that it shows. What put, change and touch ask, and the laws, are told by what is held
+abbrev pub held_of : TierMeaning → ℕ → Option Holding
+held_of m n = look_of m n
+
 abbrev pub out_of : TierMeaning → ℕ → Mark → ℕ → Option Line
 out_of m n k s = (seen m).out n k s
 
@@ -51,42 +55,45 @@ if_held (Some h) x y = x
 
 -- what put answers: a held block is refused
 abbrev pub put_answer : TierMeaning → ℕ → Mark → ℕ → Result (Option Line) Refusal
-put_answer m n k s = if_held (look_of m n) (Err AlreadyHeld) (Ok (out_of m n k s))
+put_answer m n k s = if_held (held_of m n) (Err AlreadyHeld) (Ok (out_of m n k s))
 
 -- what change and touch answer: a block that is not held is refused
 abbrev pub held_answer : TierMeaning → ℕ → Result (Unit {0}) Refusal
-held_answer m n = if_held (look_of m n) (Ok tt) (Err NotHeld)
+held_answer m n = if_held (held_of m n) (Ok tt) (Err NotHeld)
 
 -- a holding without its level
 abbrev pub bare : Option Holding → Option (ℕ × ℕ)
 bare = option_map (λ (h : Holding). (h.0, h.1))
 
--- what a tier keeps to, as it now is
+-- What a tier keeps to, as it now is. The laws speak of holdings alone: which block a put will give out is each kind's own affair,
+-- and may hang on any call made before, also on one that was refused.
 pub record TierLaws (m : TierMeaning) : Type 0 where
+  -- there are 1 to 4 levels; a held block is shared or modified, at level 1 to 4
   pub depth_low : 1 ≤ depth_of m
   pub depth_high : depth_of m ≤ 4
-  pub marks : (n : ℕ) (h : Holding) → look_of m n ≡ Some h → h.0 ≤ 1
-  pub levels : (n : ℕ) (h : Holding) → look_of m n ≡ Some h → (1 ≤ h.2) × (h.2 ≤ 4)
-  -- put: the block is held at level 1 as given
-  pub put_in : (n : ℕ) (k : Mark) (s : ℕ) → look_of m n ≡ None → look_of (after m (put n k s)) n ≡ Some (mark_number k, s, 1)
-  -- all others but the one given out keep mark and stamp
-  pub put_rest : (n : ℕ) (k : Mark) (s b : ℕ) → look_of m n ≡ None → (b ≢ n) → (option_map (λ (g : Line). g.block) (out_of m n k s) ≢ Some b)
-      → bare (look_of (after m (put n k s)) b) ≡ bare (look_of m b)
-  -- what is given out was held with that mark and stamp, and is held no more
-  pub out_held : (n : ℕ) (k : Mark) (s : ℕ) (g : Line) → look_of m n ≡ None → out_of m n k s ≡ Some g → bare (look_of m g.block) ≡ Some (mark_number g.mark, g.stamp)
-  pub out_gone : (n : ℕ) (k : Mark) (s : ℕ) (g : Line) → look_of m n ≡ None → out_of m n k s ≡ Some g → look_of (after m (put n k s)) g.block ≡ None
-  -- take: the block is not held, and all others are as before
-  pub take_gone : (n : ℕ) → look_of (after m (take n)) n ≡ None
-  pub take_rest : (n b : ℕ) → (b ≢ n) → look_of (after m (take n)) b ≡ look_of m b
-  -- change: a new mark and stamp at the same level, and no other block touched
-  pub change_in : (n : ℕ) (k : Mark) (s : ℕ) (h : Holding) → look_of m n ≡ Some h → look_of (after m (change n k s)) n ≡ Some (mark_number k, s, h.2)
-  pub change_rest : (n : ℕ) (k : Mark) (s b : ℕ) → (b ≢ n) → look_of (after m (change n k s)) b ≡ look_of m b
-  -- touch leaves the holding, clear leaves nothing
-  pub touch_look : (n b : ℕ) → look_of (after m (touch n)) b ≡ look_of m b
-  pub clear_gone : (n : ℕ) → look_of (after m clear) n ≡ None
-  -- a refused call alters nothing that is held
-  pub put_held : (n : ℕ) (k : Mark) (s b : ℕ) → is_some (look_of m n) ≡ true → look_of (after m (put n k s)) b ≡ look_of m b
-  pub change_free : (n : ℕ) (k : Mark) (s : ℕ) → look_of m n ≡ None → look_of (after m (change n k s)) n ≡ None
+  pub marks : (n : ℕ) (h : Holding) → held_of m n ≡ Some h → h.0 ≤ 1
+  pub levels : (n : ℕ) (h : Holding) → held_of m n ≡ Some h → (1 ≤ h.2) × (h.2 ≤ 4)
+  -- a put of a block that is not held: the block is held at level 1 as given
+  pub put_in : (n : ℕ) (k : Mark) (s : ℕ) → held_of m n ≡ None → held_of (after m (put n k s)) n ≡ Some (mark_number k, s, 1)
+  -- what is given out, if anything, was held with that mark and stamp, and is held no more
+  pub out_held : (n : ℕ) (k : Mark) (s : ℕ) (g : Line) → held_of m n ≡ None → out_of m n k s ≡ Some g → bare (held_of m g.block) ≡ Some (mark_number g.mark, g.stamp)
+  pub out_gone : (n : ℕ) (k : Mark) (s : ℕ) (g : Line) → held_of m n ≡ None → out_of m n k s ≡ Some g → held_of (after m (put n k s)) g.block ≡ None
+  -- all others keep mark and stamp
+  pub put_rest : (n : ℕ) (k : Mark) (s b : ℕ) → held_of m n ≡ None → (b ≢ n) → (option_map (λ (g : Line). g.block) (out_of m n k s) ≢ Some b)
+      → bare (held_of (after m (put n k s)) b) ≡ bare (held_of m b)
+  -- a put of a held block, which is refused: every block is held as before
+  pub put_held : (n : ℕ) (k : Mark) (s b : ℕ) → is_some (held_of m n) ≡ true → held_of (after m (put n k s)) b ≡ held_of m b
+  -- a take: the block is not held, and all others are as before
+  pub take_gone : (n : ℕ) → held_of (after m (take n)) n ≡ None
+  pub take_rest : (n b : ℕ) → (b ≢ n) → held_of (after m (take n)) b ≡ held_of m b
+  -- a change of a held block gives it mark and stamp, at the same level
+  pub change_in : (n : ℕ) (k : Mark) (s : ℕ) (h : Holding) → held_of m n ≡ Some h → held_of (after m (change n k s)) n ≡ Some (mark_number k, s, h.2)
+  -- one of a block that is not held, which is refused, does not make it held; and neither touches another block
+  pub change_free : (n : ℕ) (k : Mark) (s : ℕ) → held_of m n ≡ None → held_of (after m (change n k s)) n ≡ None
+  pub change_rest : (n : ℕ) (k : Mark) (s b : ℕ) → (b ≢ n) → held_of (after m (change n k s)) b ≡ held_of m b
+  -- a touch, refused or not, leaves every block as it is held; a clear leaves nothing held
+  pub touch_look : (n b : ℕ) → held_of (after m (touch n)) b ≡ held_of m b
+  pub clear_gone : (n : ℕ) → held_of (after m clear) n ≡ None
 
 -- they hold now, and after any list of calls
 abbrev pub Lawful : TierMeaning → Type 0

@@ -3,7 +3,7 @@ use Rattle.std.specs.Prelude.{ℕ, ◌+◌, min, Some, None, Option}
 use Rattle.device.specs.Device.{after, device}
 use Rattle.parts.specs.declared.mark.Mark.{Mark}
 use Rattle.parts.specs.declared.line.Line.{Line}
-use Rattle.tier.specs.Meaning.{TierMeaning, TierView, TierCall, put, take, change, touch, clear, Holding, depth_of, look_of, out_of, if_held}
+use Rattle.tier.specs.Meaning.{TierMeaning, TierView, TierCall, put, take, change, touch, clear, Holding, depth_of, look_of, held_of, out_of, if_held}
 
 pub record Parts : Type 0 where
   pub upper : TierMeaning
@@ -21,9 +21,13 @@ first d None None = None
 first d None (Some h) = Some (deeper d h)
 first d (Some h) o = Some h
 
--- the upper's holding, else the lower's
+-- what the upper shows, else what the lower shows
 abbrev pub pile_look : Parts → ℕ → Option Holding
 pile_look p n = first (depth_of p.upper) (look_of p.upper n) (look_of p.lower n)
+
+-- what the upper holds, else what the lower holds
+abbrev pub pile_held : Parts → ℕ → Option Holding
+pile_held p n = first (depth_of p.upper) (held_of p.upper n) (held_of p.lower n)
 
 -- a line that the upper gives out sinks: it is taken out of the lower, and put into it
 abbrev pub sink : TierMeaning → Option Line → TierMeaning
@@ -38,7 +42,7 @@ sunk l (Some g) = out_of (after l (take g.block)) g.block g.mark g.stamp
 -- a line leaves the pile, unless the upper holds its block
 abbrev pub unless_held : TierMeaning → Option Line → Option Line
 unless_held u None = None
-unless_held u (Some g) = if_held (look_of u g.block) None (Some g)
+unless_held u (Some g) = if_held (held_of u g.block) None (Some g)
 
 abbrev pub pile_out : Parts → ℕ → Mark → ℕ → Option Line
 pile_out p n k s = unless_held (after p.upper (put n k s)) (sunk p.lower (out_of p.upper n k s))
@@ -53,8 +57,9 @@ to_shown p n c = if_held (look_of p.upper n) (parts (after p.upper c) p.lower) (
 abbrev pub to_both : Parts → TierCall → Parts
 to_both p c = parts (after p.upper c) (after p.lower c)
 
+-- a put is refused, and goes to neither part, if either holds the block
 abbrev pub pile_step : Parts → TierCall → Parts
-pile_step p (put n k s) = if_held (pile_look p n) p (parts (after p.upper (put n k s)) (sink p.lower (out_of p.upper n k s)))
+pile_step p (put n k s) = if_held (pile_held p n) p (parts (after p.upper (put n k s)) (sink p.lower (out_of p.upper n k s)))
 pile_step p (take n) = to_both p (take n)
 pile_step p (change n k s) = to_shown p n (change n k s)
 pile_step p (touch n) = to_shown p n (touch n)
