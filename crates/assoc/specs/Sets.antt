@@ -1,9 +1,8 @@
 -- A tier of sets: the calls on block n go to set n mod sets.
-use Rattle.std.specs.Prelude.{◌≡◌, ℕ, ◌%◌, true, ◌&&◌, List, [], map, length, replicate, is_some, Result, slice_index_or, slice_set}
+use Rattle.std.specs.Prelude.{◌≡◌, ℕ, ◌%◌, true, ◌&&◌, List, [], map, length, replicate, is_some, slice_index_or, slice_set}
 use Rattle.device.specs.Device.{after, device}
-use Rattle.parts.specs.declared.refusal.BuildError.{BuildError}
 use Rattle.tier.specs.Meaning.{TierMeaning, TierView, TierCall, put, take, change, touch, clear, look_of, out_of}
-use Rattle.tier.specs.Building.{within, in_range_else}
+use Rattle.tier.specs.Building.{within, Asked}
 use Rattle.ranked.specs.declared.policy.Lru.{Lru}
 use Rattle.ranked.specs.declared.ranked.Ranked.{Ranked}
 use Rattle.ranks.specs.Ranks.{ranked}
@@ -44,9 +43,9 @@ set_associative ms = device (λ _. 1) sets_view sets_step ms
 abbrev pub empty : ℕ → ℕ → Sets
 empty sets ways = replicate sets (lru ways)
 
--- what the constructor answers: 1 to 16 sets of 1 to 4 ways, or a refusal with a tier of one line
-abbrev pub built : ℕ → ℕ → Result TierMeaning (BuildError TierMeaning)
-built sets ways = in_range_else (within 1 16 sets && within 1 4 ways) (set_associative (empty sets ways)) (set_associative (empty 1 1))
+-- what the constructor is asked for: 1 to 16 sets of 1 to 4 ways
+abbrev pub asked : ℕ → ℕ → Asked
+asked sets ways = record { fits = within 1 16 sets && within 1 4 ways; tier = set_associative (empty sets ways); least = set_associative (empty 1 1) }
 
 -- each set holds blocks of its own only
 abbrev pub Placed : Sets → Type 0

@@ -2,7 +2,7 @@
 ghost use Rattle.std.specs.Prelude.{◌≡◌, ◌≤◌, true, IfOk, vec_len};
 ghost use Rattle.tier.specs.Building.{Builds};
 ghost use Rattle.ranked.specs.Ages.{OldestLeaves};
-ghost use Rattle.assoc.specs.Sets.{index, empty, built, Placed, lrus_of};
+ghost use Rattle.assoc.specs.Sets.{index, empty, asked, Placed, lrus_of};
 
 use parts::line::Line;
 use parts::place::place_of;
@@ -35,7 +35,7 @@ impl SetAssociative {
         sets: usize,
         ways: usize,
     ) -> Result<SetAssociative, BuildError<SetAssociative>>
-        ensures built { Builds meaning_of result (built sets ways) }
+        ensures built { Builds meaning_of result (asked sets ways) }
         ensures law { IfOk result (λ t. OldestLeaves true sets ways (meaning_of t)) }
     {
         SetAssociative::sized(heap, sets, ways)
@@ -47,7 +47,7 @@ impl SetAssociative {
         sets: usize,
         ways: usize,
     ) -> Result<SetAssociative, BuildError<SetAssociative>>
-        ensures { Builds meaning_of result (built sets ways) }
+        ensures { Builds meaning_of result (asked sets ways) }
     {
         let fits = (1..=MOST_SETS).contains(&sets) && (1..=MOST_WAYS).contains(&ways);
         let (sets, ways) = if fits { (sets, ways) } else { (1, 1) };

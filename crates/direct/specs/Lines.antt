@@ -1,12 +1,11 @@
 -- A direct-mapped tier: each block has one line where it may stand.
-use Rattle.std.specs.Prelude.{◌≡◌, ℕ, ◌%◌, cond, List, length, replicate, Some, None, Option, Result, ◌==◌, slice_index_or, slice_set}
+use Rattle.std.specs.Prelude.{◌≡◌, ℕ, ◌%◌, cond, List, length, replicate, Some, None, Option, ◌==◌, slice_index_or, slice_set}
 use Rattle.std.specs.Option.{option_map}
 use Rattle.device.specs.Device.{device}
 use Rattle.parts.specs.declared.line.Line.{Line}
-use Rattle.parts.specs.declared.refusal.BuildError.{BuildError}
 use Rattle.parts.specs.Lines.{shown_of}
 use Rattle.tier.specs.Meaning.{TierMeaning, TierView, TierCall, put, take, change, touch, clear, Holding, line, if_held}
-use Rattle.tier.specs.Building.{within, in_range_else}
+use Rattle.tier.specs.Building.{within, Asked}
 
 abbrev pub Lines : Type 0
 Lines = List (Option Line)
@@ -45,9 +44,9 @@ direct ls = device (λ _. 1) direct_view direct_step ls
 abbrev pub empty : ℕ → Lines
 empty lines = replicate lines None
 
--- what the constructor answers: 1 to 64 lines, or a refusal with a tier of one line
-abbrev pub built : ℕ → Result TierMeaning (BuildError TierMeaning)
-built lines = in_range_else (within 1 64 lines) (direct (empty lines)) (direct (empty 1))
+-- what the constructor is asked for: 1 to 64 lines
+abbrev pub asked : ℕ → Asked
+asked lines = record { fits = within 1 64 lines; tier = direct (empty lines); least = direct (empty 1) }
 
 -- every block stands in its own line
 abbrev pub Placed : Lines → Type 0

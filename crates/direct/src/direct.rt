@@ -2,7 +2,7 @@
 ghost use Rattle.std.specs.Prelude.{◌≡◌, ◌<◌, ◌≤◌, IfOk, None, slice_index_or, vec_len};
 ghost use Rattle.device.specs.Device.{Always};
 ghost use Rattle.tier.specs.Building.{Builds};
-ghost use Rattle.direct.specs.Lines.{slot, having, direct, empty, built, Placed};
+ghost use Rattle.direct.specs.Lines.{slot, having, direct, empty, asked, Placed};
 ghost use Rattle.direct.specs.Mapped.{DirectMapped};
 
 use parts::line::Line;
@@ -18,7 +18,6 @@ pub const MOST_LINES: usize = 64;
 pub struct Direct {
     lines: Vec<Option<Line>>,
     ghost some: { 1 ≤ vec_len lines },
-    ghost most: { vec_len lines ≤ 64 },
     ghost placed: { Placed lines.items },
 }
 
@@ -27,7 +26,7 @@ impl Direct {
 
     /// An empty tier of 1 to 64 lines. Block n belongs to line n mod `lines`.
     pub fn new(heap: Global, lines: usize) -> Result<Direct, BuildError<Direct>>
-        ensures built { Builds direct_of result (built lines) }
+        ensures built { Builds direct_of result (asked lines) }
         ensures law { IfOk result (λ d. Always (DirectMapped lines) (direct_of d)) }
     {
         Direct::sized(heap, lines)
@@ -35,14 +34,14 @@ impl Direct {
 
     // The code apart from the law of whole runs, so that an edit of it is refused for its own sake.
     fn sized(heap: Global, lines: usize) -> Result<Direct, BuildError<Direct>>
-        ensures { Builds direct_of result (built lines) }
+        ensures { Builds direct_of result (asked lines) }
     {
         let fits = (1..=MOST_LINES).contains(&lines);
         BuildError::answer(fits, Direct::cleared(heap, if fits { lines } else { 1 }))
     }
 
     fn cleared(heap: Global, lines: usize) -> Result<Direct, AllocError>
-        requires { (1 ≤ lines) × (lines ≤ 64) }
+        requires { 1 ≤ lines }
         ensures { IfOk result (λ d. direct_of d ≡ direct (empty lines)) }
     {
         let lines = vec![in heap; None; lines]?;

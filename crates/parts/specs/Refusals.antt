@@ -14,13 +14,14 @@ abbrev pub build_number : {X : Type 0} → BuildError X → Option ℕ
 build_number (BadSize t) = Some 12
 build_number NoMemory = None
 
--- the tier that was made all the same
+-- the tier that was made all the same, if there was memory for it
 abbrev pub tier_of : {X : Type 0} → BuildError X → Result X AllocError
-tier_of (BadSize t) = Ok t
-tier_of NoMemory = Err (record {})
+tier_of (BadSize (Some t)) = Ok t
+tier_of e = Err (record {})
 
--- what a constructor answers, of what was made: a tier of the sizes asked for if they fit, else a tier of one line
+-- what a constructor answers, of what was made: a tier of the sizes asked for if they fit, else one of one line
 abbrev pub answer_of : {X : Type 0} → Bool → Result X AllocError → Result X (BuildError X)
 answer_of true (Ok t) = Ok t
-answer_of false (Ok t) = Err (BadSize t)
-answer_of fits (Err e) = Err NoMemory
+answer_of true (Err e) = Err NoMemory
+answer_of false (Ok t) = Err (BadSize (Some t))
+answer_of false (Err e) = Err (BadSize None)

@@ -1,6 +1,5 @@
 //! What a tier refuses.
 ghost use Rattle.std.specs.Prelude.{◌≡◌};
-ghost use Rattle.parts.specs.declared.refusal.BuildError.TheVariants.{NoMemory};
 ghost use Rattle.parts.specs.Refusals.{refusal_number, build_number, tier_of, answer_of};
 
 use std::alloc::AllocError;
@@ -28,9 +27,9 @@ impl From<Refusal> for u8 {
 /// Why a tier was not made as asked.
 #[derive(Drop)]
 pub enum BuildError<T> {
-    /// A size is out of range. The tier that was made instead has one line, empty.
-    BadSize(T),
-    /// The allocator had no memory.
+    /// A size is out of range. The tier that was made instead, if there was memory for it, has one line, empty.
+    BadSize(Option<T>),
+    /// The sizes are in range, and the allocator had no memory.
     NoMemory,
 }
 
@@ -45,35 +44,26 @@ impl<T> BuildError<T> {
         }
     }
 
-    /// The tier that was made all the same.
+    /// The tier that was made all the same, if there was memory for it.
     pub fn into_tier(self) -> Result<T, AllocError>
     where
         T: Drop,
         ensures { result ≡ tier_of self }
     {
         match self {
-            BuildError::BadSize(tier) => Ok(tier),
+            BuildError::BadSize(tier) => tier.ok_or(AllocError),
             BuildError::NoMemory => Err(AllocError),
         }
     }
 
-    /// What a constructor answers of the tier that it made: the tier if the sizes asked for fit, else a refusal with it.
+    /// What a constructor answers of the tier that it made, or had no memory for: whether the sizes asked for fit decides alone
+    /// whether they are refused.
     pub fn answer(fits: bool, made: Result<T, AllocError>) -> Result<T, BuildError<T>>
         ensures { result ≡ answer_of fits made }
     {
-        let tier = made?;
-        if fits {
-            Ok(tier)
-        } else {
-            Err(BuildError::BadSize(tier))
+        if !fits {
+            return Err(BuildError::BadSize(made.ok()));
         }
-    }
-}
-
-impl<T> From<AllocError> for BuildError<T> {
-    ghost from_gives = { λ _ r. r ≡ NoMemory };
-
-    fn from(_: AllocError) -> BuildError<T> {
-        BuildError::NoMemory
+        made.map_err(|_| BuildError::NoMemory)
     }
 }

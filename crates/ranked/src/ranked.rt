@@ -1,7 +1,7 @@
 //! A tier of a few lines, any block in any line, ranked by age.
 ghost use Rattle.std.specs.Prelude.{◌≡◌, ◌<◌, ◌≤◌, true, [], ◌∷◌, ◌++◌, IfOk, None, vec_len, vec_capacity};
 ghost use Rattle.tier.specs.Building.{Builds};
-ghost use Rattle.ranks.specs.Ranks.{find, without, ousted, spared, ranked, built, apart};
+ghost use Rattle.ranks.specs.Ranks.{find, without, ousted, spared, ranked, asked, apart};
 ghost use Rattle.ranked.specs.Ages.{OldestLeaves};
 
 use crate::policy::Replacement;
@@ -36,7 +36,7 @@ impl<P: Replacement + Drop> Ranked<P> {
         policy: P,
         ways: usize,
     ) -> Result<Ranked<P>, BuildError<Ranked<P>>>
-        ensures built { Builds (ranked_of P.Replacement.renewing) result (built (P.Replacement.renewing policy) ways) }
+        ensures built { Builds (ranked_of P.Replacement.renewing) result (asked (P.Replacement.renewing policy) ways) }
         ensures law { IfOk result (λ t. OldestLeaves (P.Replacement.renewing policy) 1 ways (ranked_of P.Replacement.renewing t)) }
     {
         Ranked::sized(heap, policy, ways)
@@ -44,7 +44,7 @@ impl<P: Replacement + Drop> Ranked<P> {
 
     // The code apart from the law of whole runs, so that an edit of it is refused for its own sake.
     fn sized(heap: Global, policy: P, ways: usize) -> Result<Ranked<P>, BuildError<Ranked<P>>>
-        ensures { Builds (ranked_of P.Replacement.renewing) result (built (P.Replacement.renewing policy) ways) }
+        ensures { Builds (ranked_of P.Replacement.renewing) result (asked (P.Replacement.renewing policy) ways) }
     {
         let fits = (1..=MOST_WAYS).contains(&ways);
         BuildError::answer(

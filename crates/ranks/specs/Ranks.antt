@@ -1,10 +1,9 @@
 -- A tier of a few lines, any block in any line: its lines by age, the oldest first.
-use Rattle.std.specs.Prelude.{ℕ, Bool, true, false, cond, List, [], ◌∷◌, ◌++◌, length, is_some, Some, None, Option, Result, ◌==◌, nat_lt}
+use Rattle.std.specs.Prelude.{ℕ, Bool, true, false, cond, List, [], ◌∷◌, ◌++◌, length, is_some, Some, None, Option, ◌==◌, nat_lt}
 use Rattle.std.specs.Option.{option_map}
 use Rattle.device.specs.Device.{device}
 use Rattle.parts.specs.declared.line.Line.{Line}
-use Rattle.parts.specs.declared.refusal.BuildError.{BuildError}
-use Rattle.tier.specs.Building.{within, in_range_else}
+use Rattle.tier.specs.Building.{within, Asked}
 use Rattle.parts.specs.Lines.{shown_of}
 use Rattle.tier.specs.Meaning.{TierMeaning, TierView, TierCall, put, take, change, touch, clear, line, if_held}
 
@@ -62,9 +61,9 @@ ranked_step renews ways ls clear = []
 abbrev pub ranked : Bool → ℕ → Ranks → TierMeaning
 ranked renews ways ls = device (λ _. 1) (ranked_view ways) (ranked_step renews ways) ls
 
--- what the constructor answers: 1 to 16 ways, or a refusal with a tier of one way
-abbrev pub built : Bool → ℕ → Result TierMeaning (BuildError TierMeaning)
-built renews ways = in_range_else (within 1 16 ways) (ranked renews ways []) (ranked renews 1 [])
+-- what the constructor is asked for: 1 to 16 ways
+abbrev pub asked : Bool → ℕ → Asked
+asked renews ways = record { fits = within 1 16 ways; tier = ranked renews ways []; least = ranked renews 1 [] }
 
 -- no block stands twice
 abbrev pub apart : Ranks → Bool

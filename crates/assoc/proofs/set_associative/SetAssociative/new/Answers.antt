@@ -10,4 +10,4 @@ use Rattle.assoc.proofs.set_associative.SetAssociative.new.Goals as goal
 pub returns-clause-law : goal.returns-clause-law
 returns-clause-law c =
     let sets = c.args.sets in
-    builds_made meaning_of (OldestLeaves true sets c.args.ways) _ _ _ c.sized.result c.sized.ensures (λ e. oldest_leaves sets c.args.ways (grind (arith, nat_tests)) (grind (arith, nat_tests)))
+    builds_made meaning_of (OldestLeaves true sets c.args.ways) _ c.sized.result c.sized.ensures (λ e. oldest_leaves sets c.args.ways (grind (arith, nat_tests)) (grind (arith, nat_tests)))

@@ -9,4 +9,4 @@ use Rattle.direct.proofs.direct.Direct.new.Goals as goal
 pub returns-clause-law : goal.returns-clause-law
 returns-clause-law c =
     let lines = c.args.lines in
-    builds_made direct_of (Always (DirectMapped lines)) _ _ _ c.sized.result c.sized.ensures (λ e. direct_mapped lines (within_low 1 64 lines e))
+    builds_made direct_of (Always (DirectMapped lines)) _ c.sized.result c.sized.ensures (λ e. direct_mapped lines (within_low 1 64 lines e))

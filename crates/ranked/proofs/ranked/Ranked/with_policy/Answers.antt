@@ -8,5 +8,5 @@ use Rattle.ranked.proofs.ranked.Ranked.with_policy.Goals as goal
 pub returns-clause-law : goal.returns-clause-law
 returns-clause-law g c =
     let renews = g.P.Replacement.renewing c.args.policy in
-    builds_made (ranked_of g.P.Replacement.renewing) (OldestLeaves renews 1 c.args.ways) _ _ _ c.sized.result c.sized.ensures
+    builds_made (ranked_of g.P.Replacement.renewing) (OldestLeaves renews 1 c.args.ways) _ c.sized.result c.sized.ensures
     (λ e. oldest_leaves renews c.args.ways (within_low 1 16 c.args.ways e))
