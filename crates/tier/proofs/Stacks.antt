@@ -8,7 +8,7 @@ use Rattle.device.specs.Laws.{device-after}
 use Rattle.parts.specs.declared.mark.Mark.{Mark}
 use Rattle.parts.specs.declared.line.Line.{Line}
 use Rattle.tier.specs.Meaning.{TierMeaning, TierCall, put, take, change, touch, clear, Holding, depth_of, look_of, out_of, if_held, bare, Lawful}
-use Rattle.tier.specs.Pile.{Parts, parts, first, pile_look, sink, pile_view, to_shown, pile_step, pile_depth, pile}
+use Rattle.tier.specs.Pile.{Parts, parts, first, pile_look, freed, sink, pile_view, to_shown, pile_step, pile_depth, pile}
 use Rattle.tier.specs.Stacked.{Stacked, StaysStacked}
 use Rattle.tier.specs.Options.{never, is_some_lem, some_of}
 use Rattle.tier.specs.Holdings.{bare-none, bare-held}
@@ -53,7 +53,7 @@ module _ (p : Parts) (ok : Sound p) (apart : Apart p) where
 
     module _ (g : Line) (fell : out_of u n k s ≡ Some g) where
       abbrev taken : TierMeaning
-      taken = after l (take g.block)
+      taken = freed l g.block
 
       abbrev laid : TierMeaning
       laid = after taken (put g.block g.mark g.stamp)
@@ -113,10 +113,16 @@ module _ (u l : TierMeaning) where
   made_both : (p : Parts) (c : TierCall) → Made u l p → Made u l (parts (after p.upper c) (after p.lower c))
   made_both p c h = made-lower (parts (after p.upper c) p.lower) c (made-upper p c h)
 
+  made-freed : (p : Parts) (n : ℕ) → Made u l p → Made u l (parts p.upper (freed p.lower n))
+  made-freed p n h = go (look_of p.lower n)
+    where
+      go : (o : Option Holding) → Made u l (parts p.upper (if_held o (after p.lower (take n)) p.lower))
+      go None = h
+      go (Some x) = made-lower p (take n) h
+
   made-sink : (p : Parts) (o : Option Line) → Made u l p → Made u l (parts p.upper (sink p.lower o))
   made-sink p None h = h
-  made-sink p (Some g) h =
-      made-lower (parts p.upper (after p.lower (take g.block))) (put g.block g.mark g.stamp) (made-lower p (take g.block) h)
+  made-sink p (Some g) h = made-lower (parts p.upper (freed p.lower g.block)) (put g.block g.mark g.stamp) (made-freed p g.block h)
 
   made_held : (o : Option Holding) (q r : Parts) → Made u l q → Made u l r → Made u l (if_held o q r)
   made_held None q r i j = j

@@ -29,15 +29,19 @@ pile_look p n = first (depth_of p.upper) (look_of p.upper n) (look_of p.lower n)
 abbrev pub pile_held : Parts → ℕ → Option Holding
 pile_held p n = first (depth_of p.upper) (held_of p.upper n) (held_of p.lower n)
 
--- a line that the upper gives out sinks: it is taken out of the lower, and put into it
+-- a block is taken out, if it is held
+abbrev pub freed : TierMeaning → ℕ → TierMeaning
+freed l n = if_held (held_of l n) (after l (take n)) l
+
+-- a line that the upper gives out sinks: its block is taken out of the lower, if it is there too, and the line is put into the lower
 abbrev pub sink : TierMeaning → Option Line → TierMeaning
 sink l None = l
-sink l (Some g) = after (after l (take g.block)) (put g.block g.mark g.stamp)
+sink l (Some g) = after (freed l g.block) (put g.block g.mark g.stamp)
 
 -- what the lower then gives out
 abbrev pub sunk : TierMeaning → Option Line → Option Line
 sunk l None = None
-sunk l (Some g) = out_of (after l (take g.block)) g.block g.mark g.stamp
+sunk l (Some g) = out_of (freed l g.block) g.block g.mark g.stamp
 
 -- a line leaves the pile, unless the upper holds its block
 abbrev pub unless_held : TierMeaning → Option Line → Option Line

@@ -10,7 +10,7 @@ use Rattle.parts.specs.declared.mark.Mark.{Mark}
 use Rattle.parts.specs.declared.line.Line.{Line}
 use Rattle.parts.specs.Marks.{mark_number}
 use Rattle.tier.specs.Meaning.{TierMeaning, TierCall, put, take, change, touch, clear, Holding, depth_of, look_of, out_of, if_held, bare, TierLaws, Lawful}
-use Rattle.tier.specs.Pile.{Parts, parts, deeper, first, pile_look, sink, sunk, unless_held, pile_out, pile_view, to_shown, pile_step, pile_depth, pile}
+use Rattle.tier.specs.Pile.{Parts, parts, deeper, first, pile_look, freed, sink, sunk, unless_held, pile_out, pile_view, to_shown, pile_step, pile_depth, pile}
 use Rattle.tier.specs.Options.{never, none-some}
 use Rattle.tier.specs.Holdings.{held-some, held_none, bare-none}
 
@@ -59,9 +59,16 @@ depth_held : (o : Option Holding) (p q r : Parts) → pile_depth q ≡ pile_dept
 depth_held None p q r i j = j
 depth_held (Some x) p q r i j = i
 
+depth_freed : (l : TierMeaning) (n : ℕ) → depth_of (freed l n) ≡ depth_of l
+depth_freed l n = go (look_of l n)
+  where
+    go : (o : Option Holding) → depth_of (if_held o (after l (take n)) l) ≡ depth_of l
+    go None = refl
+    go (Some h) = refl
+
 depth_sink : (l : TierMeaning) (g : Option Line) → depth_of (sink l g) ≡ depth_of l
 depth_sink l None = refl
-depth_sink l (Some g) = refl
+depth_sink l (Some g) = depth_freed l g.block
 
 pub stays : (p : Parts) (c : TierCall) → pile_depth (pile_step p c) ≡ pile_depth p
 stays p (put n k s) = depth_held (pile_look p n) p p _ refl (ap (λ i. min 4 (depth_of p.upper + i)) (depth_sink p.lower (out_of p.upper n k s)))
@@ -69,6 +76,30 @@ stays p (take n) = refl
 stays p (change n k s) = depth_held (look_of p.upper n) p _ _ refl refl
 stays p (touch n) = depth_held (look_of p.upper n) p _ _ refl refl
 stays p clear = refl
+
+-- ---- a tier that a block was taken out of
+
+module _ (l : TierMeaning) (ok : Lawful l) (n : ℕ) where
+  pub freed-lawful : Lawful (freed l n)
+  freed-lawful = go (look_of l n)
+    where
+      go : (o : Option Holding) → Lawful (if_held o (after l (take n)) l)
+      go None = ok
+      go (Some h) = λ cs. ok (take n ∷ cs)
+
+  pub freed-gone : look_of (freed l n) n ≡ None
+  freed-gone = go (look_of l n) refl
+    where
+      go : (o : Option Holding) → look_of l n ≡ o → look_of (if_held o (after l (take n)) l) n ≡ None
+      go None e = e
+      go (Some h) e = (ok []).take_gone n
+
+  pub freed-rest : (b : ℕ) → (b ≢ n) → look_of (freed l n) b ≡ look_of l b
+  freed-rest b ne = go (look_of l n)
+    where
+      go : (o : Option Holding) → look_of (if_held o (after l (take n)) l) b ≡ look_of l b
+      go None = refl
+      go (Some h) = (ok []).take_rest n b ne
 
 abbrev pub at : Parts → TierMeaning
 at p = device pile_depth pile_view pile_step p
@@ -100,7 +131,7 @@ module _ (p : Parts) (ok : Sound p) where
 
   lawful-sink : (g : Option Line) → Lawful (sink l g)
   lawful-sink None = ok.1
-  lawful-sink (Some g) = λ cs. ok.1 (take g.block ∷ (put g.block g.mark g.stamp ∷ cs))
+  lawful-sink (Some g) = λ cs. freed-lawful l ok.1 g.block (put g.block g.mark g.stamp ∷ cs)
 
   sound-shown : (n : ℕ) (c : TierCall) → Sound (to_shown p n c)
   sound-shown n c = sound-held (look_of u n) _ _ (λ cs. ok.0 (c ∷ cs), ok.1) (ok.0, λ cs. ok.1 (c ∷ cs))
@@ -136,19 +167,19 @@ module _ (p : Parts) (ok : Sound p) where
     -- the upper gives out a line g, which sinks
     module _ (g : Line) (fell : out_of u n k s ≡ Some g) where
       abbrev taken : TierMeaning
-      taken = after l (take g.block)
+      taken = freed l g.block
 
       abbrev laid : TierMeaning
       laid = after taken (put g.block g.mark g.stamp)
 
       abbrev ht : TierLaws taken
-      ht = ok.1 (take g.block ∷ [])
+      ht = freed-lawful l ok.1 g.block []
 
       abbrev away : Option Line
       away = out_of taken g.block g.mark g.stamp
 
       pub room : look_of taken g.block ≡ None
-      room = hl.take_gone g.block
+      room = freed-gone l ok.1 g.block
 
       fallen_same : bare (first d (look_of u' g.block) (look_of laid g.block)) ≡ bare (pile_look p g.block)
       fallen_same =
@@ -159,7 +190,7 @@ module _ (p : Parts) (ok : Sound p) where
       upper-same b nn ng = hu.put_rest n k s b fu nn (λ e. ng (sym (same_Some g.block b (sym (ap (option_map block) fell) ∙ e))))
 
       pub lower-same : (b : ℕ) → (b ≢ g.block) → (option_map block away ≢ Some b) → bare (look_of laid b) ≡ bare (look_of l b)
-      lower-same b ng nw = ht.put_rest g.block g.mark g.stamp b room ng nw ∙ ap bare (hl.take_rest g.block b ng)
+      lower-same b ng nw = ht.put_rest g.block g.mark g.stamp b room ng nw ∙ ap bare (freed-rest l ok.1 g.block b ng)
 
       beside : (b : ℕ) → (b ≢ n) → (b ≢ g.block) → (option_map block (unless_held u' away) ≢ Some b)
           → (o : Option Line) → away ≡ o → bare (first d (look_of u' b) (look_of laid b)) ≡ bare (pile_look p b)
@@ -181,7 +212,7 @@ module _ (p : Parts) (ok : Sound p) where
       away-held x e =
           let had = ht.out_held g.block g.mark g.stamp x room e in
           let ng : x.block ≡ g.block → ⊥ = λ q. never _ (sym (ap bare (ap (look_of taken) q ∙ room)) ∙ had) in
-          (ng, ap bare (sym (hl.take_rest g.block x.block ng)) ∙ had)
+          (ng, ap bare (sym (freed-rest l ok.1 g.block x.block ng)) ∙ had)
 
       leaver_held : (x : Line) → unless_held u' away ≡ Some x → bare (pile_look p x.block) ≡ Some (mark_number x.mark, x.stamp)
       leaver_held x e =

@@ -2,7 +2,7 @@
 ghost use Rattle.std.specs.Prelude.{◌≡◌, Some};
 ghost use Rattle.device.specs.Device.{after};
 ghost use Rattle.tier.specs.Meaning.{clear};
-ghost use Rattle.tier.specs.Pile.{pile, deeper, sink, sunk};
+ghost use Rattle.tier.specs.Pile.{pile, deeper, freed, sink, sunk};
 ghost use Rattle.tier.specs.Stacked.{StaysStacked};
 ghost use Rattle.tier.specs.PileLaws.{pile-lawful};
 
@@ -47,13 +47,22 @@ fn deepened(depth: u32, shown: (u32, u32, u32)) -> (u32, u32, u32)
     (mark, stamp, depth.saturating_add(level).min(4))
 }
 
-// Takes the block out of the tier, if it is there too, and puts the line into it. Only a put of a held block is refused, so the
-// put comes first, and mostly one lookup is saved.
+// Takes the block out of the tier, if it is there.
+fn free<L: Tier>(lower: &mut L, block: u16)
+    ensures { L.Tier.meaning lower.new ≡ freed (L.Tier.meaning lower.old) block }
+{
+    if lower.look(block).is_some() {
+        let _ = lower.take(block);
+    }
+}
+
+// Takes the block out of the tier, if it is there too, and puts the line into it. A put that the tier refused first, or a take in
+// vain, could alter what the tier gives out later: so it is asked before.
 fn sink_into<L: Tier>(lower: &mut L, line: Line) -> Option<Line>
     ensures answer { result ≡ sunk (L.Tier.meaning lower.old) (Some line) }
     ensures next { L.Tier.meaning lower.new ≡ sink (L.Tier.meaning lower.old) (Some line) }
 {
-    let _ = lower.take(line.block);
+    free(lower, line.block);
     lower.put(line).unwrap_or(None)
 }
 
@@ -76,7 +85,7 @@ impl<U: Tier, L: Tier> Tier for Pile<U, L> {
         Some(deepened(self.upper.depth(), shown))
     }
 
-    // The upper refuses a block that it holds, and a refused put alters nothing: only the lower is asked first.
+    // Both parts are asked first: a put that one of them refused could alter what it gives out later.
     fn put(&mut self, line: Line) -> Result<Option<Line>, Refusal> {
         if self.upper.look(line.block).is_some() || self.lower.look(line.block).is_some() {
             return Err(Refusal::AlreadyHeld);
