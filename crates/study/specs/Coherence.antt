@@ -3,7 +3,7 @@ use Rattle.std.specs.Prelude.{◌≡◌, ℕ, ◌<◌, ◌≢◌, false, List, S
 use Rattle.parts.specs.declared.mark.Mark.{Mark}
 use Rattle.parts.specs.declared.mark.Mark.TheVariants.{Modified}
 use Rattle.parts.specs.Marks.{mark_number}
-use Rattle.tier.specs.Meaning.{Holding, look_of, bare}
+use Rattle.tier.specs.Meaning.{Holding, held_of, bare}
 use Rattle.memory.specs.Meaning.{MemoryMeaning, size_of}
 use Rattle.moves.specs.Moves.{is_modified}
 use Rattle.row.specs.Cores.{CoreMeaning, tier_at, met}
@@ -12,7 +12,7 @@ use Rattle.study.specs.Step.{valid, brought_up}
 
 -- the copy that core c has of block n: the number of its mark, and its stamp
 abbrev pub copy_of : List CoreMeaning → ℕ → ℕ → Option (ℕ × ℕ)
-copy_of cs c n = bare (look_of (tier_at cs c) n)
+copy_of cs c n = bare (held_of (tier_at cs c) n)
 
 -- core c holds block n with this mark and stamp
 abbrev pub Holds : List CoreMeaning → ℕ → ℕ → Mark → ℕ → Type 0
@@ -39,4 +39,4 @@ pub record Coherent (cs : List CoreMeaning) (m : MemoryMeaning) : Type 0 where
 
 -- the message by which a core becomes the only holder of a block that it holds shared meets no modified copy
 abbrev pub Unmet : RunMeaning → Type 0
-Unmet r = (c n : ℕ) (h : Holding) → look_of (tier_at r.cores c) n ≡ Some h → is_modified h ≡ false → met 0 c n (brought_up r c n h) ≡ None
+Unmet r = (c n : ℕ) (h : Holding) → held_of (tier_at r.cores c) n ≡ Some h → is_modified h ≡ false → met 0 c n (brought_up r c n h) ≡ None

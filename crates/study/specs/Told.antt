@@ -5,7 +5,7 @@ use Rattle.device.specs.Device.{after}
 use Rattle.parts.specs.declared.mark.Mark.{Mark}
 use Rattle.parts.specs.declared.mark.Mark.TheVariants.{Shared, Modified}
 use Rattle.parts.specs.Marks.{mark_number}
-use Rattle.tier.specs.Meaning.{TierMeaning, put, take, change, touch, look_of}
+use Rattle.tier.specs.Meaning.{TierMeaning, put, take, change, touch, held_of}
 use Rattle.protocol.specs.declared.access.Access.{Access}
 use Rattle.protocol.specs.declared.access.Access.TheVariants.{Read as ToRead, Write as ToWrite}
 use Rattle.protocol.specs.declared.access.CoreState.{CoreState}
@@ -37,7 +37,7 @@ Asks (Commit c n) s a = ⊥
 
 -- core c holds block n with this mark and stamp at level l
 abbrev pub HoldsAt : List CoreMeaning → ℕ → ℕ → Mark → ℕ → ℕ → Type 0
-HoldsAt cs c n k s l = look_of (tier_at cs c) n ≡ Some (mark_number k, s, l)
+HoldsAt cs c n k s l = held_of (tier_at cs c) n ≡ Some (mark_number k, s, l)
 
 -- every core but c is as it was
 abbrev pub OthersStay : ℕ → RunMeaning → RunMeaning → Type 0
