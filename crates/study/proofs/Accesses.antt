@@ -1,16 +1,16 @@
 -- What every call keeps, and that accesses keep it: waiting, reading and writing.
-use Rattle.std.proofs.Common.{◌≡◌, ℕ, ◌+◌, ◌<◌, Bool, true, false, cond, eqb, ◌≢◌, List, [], length, Some, None, Option, sym, refl, ap, ◌∙◌, subst, add-zero}
+use Rattle.std.proofs.Common.{◌≡◌, ℕ, ◌+◌, ◌<◌, ◌≤◌, Bool, true, false, cond, eqb, ◌≢◌, List, [], length, Some, None, Option, sym, refl, ap, ◌∙◌, subst, add-zero}
 use mathlib.Core.Bool.{false≢true}
 use native.Mathlib.Decide.{ℕ_discrete}
 use Rattle.std.proofs.lemmas.Bool.{eqb-true}
 use Rattle.parts.specs.declared.mark.Mark.{Mark}
-use Rattle.parts.specs.declared.mark.Mark.TheVariants.{Modified}
+use Rattle.parts.specs.declared.mark.Mark.TheVariants.{Shared, Modified}
 use Rattle.parts.specs.declared.line.Line.{Line}
 use Rattle.parts.specs.Marks.{mark_number, mark_of}
 use Rattle.device.specs.Device.{after}
 use Rattle.tier.specs.Meaning.{TierMeaning, change, touch, Holding, look_of, line, bare, Lawful}
 use Rattle.tier.specs.Options.{none-some}
-use Rattle.memory.specs.Meaning.{MemoryMeaning, size_of}
+use Rattle.memory.specs.Meaning.{MemoryMeaning, stale, size_of}
 use Rattle.protocol.specs.declared.access.Access.{Access}
 use Rattle.protocol.specs.declared.access.Access.TheVariants.{Read as ToRead, Write as ToWrite}
 use Rattle.protocol.specs.declared.access.CoreState.{CoreState}
@@ -21,21 +21,24 @@ use Rattle.protocol.specs.declared.call.Call.TheVariants.{Resume}
 use Rattle.protocol.specs.Accesses.{block_of}
 use Rattle.protocol.specs.Answers.{word_of}
 use Rattle.protocol.specs.Calls.{core_of}
+use Rattle.protocol.specs.declared.weights.Movement.TheVariants.{FromLevel}
+use Rattle.protocol.specs.Prices.{level_price}
 use Rattle.moves.specs.Moves.{is_modified, put_back, raised, raised_out}
 use Rattle.moves.proofs.Raising.{mark_of_number, raised_look}
 use Rattle.row.specs.declared.operation.Operation.TheVariants.{BringUp, Change as ToChange}
-use Rattle.row.specs.Cores.{CoreMeaning, core, core_at, tier_at, state_at, done}
+use Rattle.row.specs.Cores.{CoreMeaning, core, core_at, tier_at, state_at, done, met}
 use Rattle.study.specs.Run.{RunMeaning, Outcome}
-use Rattle.study.specs.Step.{valid, memory_taking, waiting, brought_up, reading, alone_cores, alone_memory, writing, access_by, access}
+use Rattle.study.specs.Step.{valid, memory_taking, movement_of, charged, waiting, brought_up, reading, alone_cores, recalled, alone_memory, writing, access_by, access}
 use Rattle.study.specs.Book.{Book, asking, heard, entered, may_write, noted, Honest}
 use Rattle.study.specs.Coherence.{copy_of}
-use Rattle.study.specs.Told.{Asks, Told, served, given_up}
+use Rattle.study.specs.Questions.{Allowed}
+use Rattle.study.specs.Told.{Asks, Told, served, given_up, taking, outdated, LevelWeight, leaving_price}
 use Rattle.study.proofs.Block.{Owner, owner, stamped, kept}
 use Rattle.study.proofs.Tiers.{held, Passed, stayed, gone, lawful-after, Raised, raises, change-holds, change-others}
 use Rattle.study.proofs.Memories.{Kept, alone-kept, alone-stale, left-lawful, left-size, left-others, left-change}
 use Rattle.study.proofs.Rows.{Replaced, copy_here, copy_there, placed, operated_on, turned-done, Drops, Alone, giving_up, alone}
-use Rattle.study.proofs.Sound.{Sound, inside, change-sound, own-sound}
-use Rattle.study.proofs.Rests.{rest-of}
+use Rattle.study.proofs.Sound.{Sound, inside, meets-none, change-sound, own-sound}
+use Rattle.study.proofs.Rests.{leaving_cost, takes, level_weight, rest-of}
 
 -- a core with the tier t in the state s, where memory has z blocks and a is the block that the core last asked for
 abbrev StandsIn : ℕ → ℕ → TierMeaning → CoreState → Type 0
@@ -52,10 +55,12 @@ pub record Inv (r : RunMeaning) (b : Book) : Type 0 where
   pub states : (d : ℕ) → Stands (size_of r.memory) (b.asked d) (core_at r.cores d)
   pub count : r.tally.writes ≡ b.count
 
--- a call of the run r so answered keeps it; its answer is honest, and tells what is so
+-- a call of the run r so answered keeps it, its cores and its blocks; its answer is honest, and tells what is so
 pub record Good (r : RunMeaning) (b : Book) (k : Call) (o : Outcome) : Type 0 where
   pub inv : Inv o.run (noted b k (word_of o.answer))
   pub told : Told k r o.run o.answer o.charge
+  pub cores : length o.run.cores ≡ length r.cores
+  pub blocks : size_of o.run.memory ≡ size_of r.memory
   pub honest : Honest (noted b k (word_of o.answer)) (core_of k) o.answer
 
 -- an answer that does not say read claims nothing
@@ -91,7 +96,7 @@ resume_credits c (ToWrite n) = refl
 -- an access by the core of the call k
 module _ (r : RunMeaning) (b : Book) (k : Call) (S : Sound r.cores r.memory b.number) (lt : core_of k < length r.cores)
     (states : (d : ℕ) → d ≢ core_of k → Stands (size_of r.memory) (asking k b.asked d) (core_at r.cores d))
-    (count : r.tally.writes ≡ b.count) where
+    (count : r.tally.writes ≡ b.count) (may : Allowed k r) where
   abbrev c : ℕ
   c = core_of k
 
@@ -117,7 +122,7 @@ module _ (r : RunMeaning) (b : Book) (k : Call) (S : Sound r.cores r.memory b.nu
           states = stands_replaced _ _ (asking k b.asked) cs _ c _ R refl states (h, q, ap bare e);
           count = add-zero _ ∙ count;
         };
-        told = record {
+        told = (may, record {
           wanted = a;
           asked = asks;
           block = refl;
@@ -130,7 +135,9 @@ module _ (r : RunMeaning) (b : Book) (k : Call) (S : Sound r.cores r.memory b.nu
           ];
           memory = refl;
           charged = refl;
-        };
+        });
+        cores = R.size;
+        blocks = refl;
         honest = silent;
       }
 
@@ -186,6 +193,16 @@ module _ (r : RunMeaning) (b : Book) (k : Call) (S : Sound r.cores r.memory b.nu
     served₁ : t₁ ≡ served t n mark.0 h.1 h.2
     served₁ = ap (λ o. cond (eqb h.2 1) (after t (touch n)) (put_back t n o h.1)) mark.1
 
+    -- what it costs: the weight of its level, and more where a modified line leaves
+    levels₁ : (1 ≤ h.2) × (h.2 ≤ 4)
+    levels₁ = (ok []).levels n h e
+
+    weight₁ : LevelWeight r.prices h.2 (level_price r.prices h.2)
+    weight₁ = level_weight r.prices h.2 levels₁.0 levels₁.1
+
+    cost₁ : charged r.prices (FromLevel h.2) (movement_of out) ≡ level_price r.prices h.2 + leaving_price r.prices out
+    cost₁ = ap (λ i. level_price r.prices h.2 + i) (leaving_cost r.prices out)
+
     reading-good : Asks k (state_at cs c) (ToRead n) → Good r b k (reading r c n h)
     reading-good asks = record {
       inv = record {
@@ -193,20 +210,27 @@ module _ (r : RunMeaning) (b : Book) (k : Call) (S : Sound r.cores r.memory b.nu
         states = stands_replaced _ _ (asking k b.asked) cs cs₁ c _ replaced₁ size₁ states tt;
         count = add-zero _ ∙ count;
       };
-      told = record {
+      told = (may, record {
         block = n;
         asked = asks;
         mark = mark.0;
         level = h.2;
-        held = held₁;
+        access = record {
+          held = held₁;
+          ready = ap (λ (x : CoreMeaning). x.state) replaced₁.here;
+          rest = rest-of r _ c n t₁ out S.memory (inside cs m b.number S c) (λ j ne. copy_here cs cs₁ c _ replaced₁ j) (λ j ne. refl) (λ j ne. up.passed j) stays₁;
+          weight = level_price r.prices h.2;
+          level = weight₁;
+          charged = cost₁;
+        };
         holds = ap (λ (x : CoreMeaning). look_of x.tier n) replaced₁.here ∙ first₁ ∙ ap (λ i. Some (i, h.1, 1)) (sym mark.2);
-        ready = ap (λ (x : CoreMeaning). x.state) replaced₁.here;
+        stays = left-others m S.memory out n stays₁;
         tier = ap (λ (x : CoreMeaning). x.tier) replaced₁.here ∙ served₁;
         others = replaced₁.there;
-        rest = rest-of r _ c n t₁ out S.memory (inside cs m b.number S c) (λ j ne. copy_here cs cs₁ c _ replaced₁ j) (λ j ne. refl) (λ j ne. up.passed j) stays₁;
-        memory = left-others m S.memory out n stays₁;
-        charged = refl;
-      };
+        memory = takes out m;
+      });
+      cores = replaced₁.size;
+      blocks = size₁;
       honest = λ _. rw q (stamped (b.number n) _ _ c (h.0, h.1) (ap bare e) (S.blocks n within));
     }
 
@@ -233,6 +257,17 @@ module _ (r : RunMeaning) (b : Book) (k : Call) (S : Sound r.cores r.memory b.nu
     given_up₂ : (d : ℕ) → d ≢ c → tier_at cs₂ d ≡ given_up mark.0 n (tier_at cs₁ d)
     given_up₂ d ne = subst (λ i. tier_at (alone_cores (eqb i 1) c n cs₁) d ≡ given_up mark.0 n (tier_at cs₁ d)) mark.2 (giving_up mark.0 cs₁ c n sound₁.short d ne)
 
+    -- memory's block is stale then, which it is already where the copy is modified
+    outdated₂ : alone_memory (is_modified h) c n cs₁ m₁ ≡ outdated mark.0 n (taking out m)
+    outdated₂ = go (mark.0) mark.2
+      where
+        go : (x : Mark) → mark_number x ≡ h.0 → alone_memory (is_modified h) c n cs₁ m₁ ≡ outdated x n (taking out m)
+        go Shared is =
+            let unmet : met 0 c n cs₁ ≡ None = meets-none cs₁ m₁ b.number sound₁ c n h.1 (copy_here cs cs₁ c _ replaced₁ n ∙ up.holds ∙ ap (λ i. Some (i, h.1)) (sym is)) in
+            subst (λ i. alone_memory (eqb i 1) c n cs₁ m₁ ≡ after (taking out m) (stale n)) is
+            (ap (λ o. after (recalled n o m₁) (stale n)) unmet ∙ ap (λ x. after x (stale n)) (takes out m))
+        go Modified is = subst (λ i. alone_memory (eqb i 1) c n cs₁ m₁ ≡ taking out m) is (takes out m)
+
     abbrev w : ℕ
     w = r.tally.writes + 1
 
@@ -258,31 +293,38 @@ module _ (r : RunMeaning) (b : Book) (k : Call) (S : Sound r.cores r.memory b.nu
     }
 
     writing-good : Asks k (state_at cs c) (ToWrite n) → may_write k ≡ true → Good r b k (writing r c n h)
-    writing-good asks may =
+    writing-good asks credit =
         let Kept-by : Bool → Type 0 = λ x. Inv (writing r c n h).run (cond x credited (heard b k Wrote)) in
         record {
-          inv = subst Kept-by (sym may) written;
-          told = record {
+          inv = subst Kept-by (sym credit) written;
+          told = (may, record {
             block = n;
             asked = asks;
             mark = mark.0;
             before = h.1;
             level = h.2;
-            held = held₁;
+            access = record {
+              held = held₁;
+              ready = ap (λ (x : CoreMeaning). x.state) replaced₂.here;
+              rest = rest-of r _ c n t₁ out S.memory (inside cs m b.number S c)
+                  (λ j ne. copy_here cs₂ _ c _ replaced₂ j ∙ change-others t₁ up.lawful n Modified w j ne) kept₂.others (λ j ne. up.passed j) stays₁;
+              weight = level_price r.prices h.2;
+              level = weight₁;
+              charged = cost₁;
+            };
             holds = ap (λ (x : CoreMeaning). look_of x.tier n) replaced₂.here ∙ (up.lawful []).change_in n Modified w (h.0, h.1, 1) first₁;
-            ready = ap (λ (x : CoreMeaning). x.state) replaced₂.here;
             tier = ap (λ (x : CoreMeaning). x.tier) replaced₂.here ∙ ap (λ i. after i (change n Modified w)) served₁;
             alone = λ d ne. copy_there cs₂ _ c _ replaced₂ n d ne ∙ (alone₂.there d ne).empty;
             stale = stale₂;
-            rest = rest-of r _ c n t₁ out S.memory (inside cs m b.number S c)
-                (λ j ne. copy_here cs₂ _ c _ replaced₂ j ∙ change-others t₁ up.lawful n Modified w j ne) kept₂.others (λ j ne. up.passed j) stays₁;
             newest = refl;
-            charged = refl;
             states = λ d ne. ap (λ (x : CoreMeaning). x.state) (replaced₂.there d ne) ∙ (alone₂.there d ne).state ∙ ap (λ (x : CoreMeaning). x.state) (replaced₁.there d ne);
             others = λ d j ne nj. copy_there cs₂ _ c _ replaced₂ j d ne ∙ (alone₂.there d ne).others j nj ∙ copy_there cs cs₁ c _ replaced₁ j d ne;
             tiers = λ d ne. ap (λ (x : CoreMeaning). x.tier) (replaced₂.there d ne) ∙ given_up₂ d ne
                 ∙ ap (λ (x : CoreMeaning). given_up mark.0 n x.tier) (replaced₁.there d ne);
-          };
+            memory = outdated₂;
+          });
+          cores = replaced₂.size ∙ alone₂.size ∙ replaced₁.size;
+          blocks = kept₂.size ∙ size₁;
           honest = silent;
         }
 

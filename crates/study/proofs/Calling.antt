@@ -1,10 +1,10 @@
 -- After any calls of a run, each core's tier is what some calls of it made of the tier as it was.
 use Rattle.std.proofs.Common.{◌≡◌, ℕ, ◌++◌, Bool, true, false, cond, eqb, ◌≢◌, List, [], ◌∷◌, Ok, Err, Result, sym, refl, ap, ◌∙◌}
 use native.Mathlib.Decide.{ℕ_discrete}
-use Rattle.device.specs.Device.{after, reach}
+use Rattle.device.specs.Device.{Device, after, reach}
 use Rattle.parts.specs.declared.mark.Mark.{Mark}
 use Rattle.parts.specs.declared.mark.Mark.TheVariants.{Shared, Modified}
-use Rattle.tier.specs.Meaning.{TierMeaning, TierCall, put, take, change, touch}
+use Rattle.tier.specs.Meaning.{TierMeaning, put, take, change, touch}
 use Rattle.protocol.specs.declared.answer.Answer.{Answer}
 use Rattle.protocol.specs.declared.answer.Answer.TheVariants.{Waits, Brought, Read, Wrote, Flushed, Committed}
 use Rattle.protocol.specs.declared.call.Call.{Call}
@@ -12,18 +12,19 @@ use Rattle.protocol.specs.declared.refusal.Refusal.{Refusal}
 use Rattle.protocol.specs.Calls.{core_of}
 use Rattle.row.specs.Cores.{CoreMeaning, tier_at}
 use Rattle.study.specs.Run.{RunMeaning}
-use Rattle.study.specs.Told.{OthersStay, served, given_up, NowClean, Told}
+use Rattle.study.specs.Told.{OthersStay, served, given_up, NowClean, Answered, Told}
 use Rattle.study.specs.Warrant.{Becomes}
 
-reach_both : (a b : List TierCall) (t : TierMeaning) → reach t (a ++ b) ≡ reach (reach t a) b
-reach_both [] b t = refl
-reach_both (c ∷ a) b t = reach_both a b (after t c)
+module _ {K C V : Type 0} where
+  reach_both : (a b : List C) (d : Device K C V) → reach d (a ++ b) ≡ reach (reach d a) b
+  reach_both [] b d = refl
+  reach_both (c ∷ a) b d = reach_both a b (after d c)
 
-pub still : (t : TierMeaning) → Becomes t t
-still t = ([], refl)
+  pub still : (d : Device K C V) → Becomes d d
+  still d = ([], refl)
 
-pub then_becomes : (t u v : TierMeaning) → Becomes t u → Becomes u v → Becomes t v
-then_becomes t u v p q = (p.0 ++ q.0, q.1 ∙ ap (λ x. reach x q.0) p.1 ∙ sym (reach_both p.0 q.0 t))
+  pub then_becomes : (d e f : Device K C V) → Becomes d e → Becomes e f → Becomes d f
+  then_becomes d e f p q = (p.0 ++ q.0, q.1 ∙ ap (λ x. reach x q.0) p.1 ∙ sym (reach_both p.0 q.0 d))
 
 -- a tier that has served a block, and one that has given it up
 serves : (t u : TierMeaning) (n : ℕ) (k : Mark) (s l : ℕ) → u ≡ served t n k s l → Becomes t u
@@ -51,16 +52,19 @@ module _ (r r' : RunMeaning) (d : ℕ) where
   cleans : (c n charge : ℕ) → NowClean c n r r' charge → Turns
   cleans c n charge T = of_core c (change n Shared T.stamp ∷ [], T.tier) (stays c T.others)
 
-  pub turns : (k : Call) (x : Result Answer Refusal) (charge : ℕ) → Told k r r' x charge → Turns
-  turns k (Ok (Waits n)) charge T = ([], T.tiers d)
-  turns k (Ok (Brought n)) charge T = of_core (core_of k) (put n Shared T.1.stamp ∷ [], T.1.tier) (stays (core_of k) T.1.others)
-  turns k (Ok (Read s)) charge T = of_core (core_of k) (serves _ _ T.block T.mark s T.level T.tier) (stays (core_of k) T.others)
-  turns k (Ok (Wrote s)) charge T =
+  answers : (k : Call) (x : Answer) (charge : ℕ) → Answered k r r' x charge → Turns
+  answers k (Waits n) charge T = ([], T.tiers d)
+  answers k (Brought n) charge T = of_core (core_of k) (put n Shared T.1.stamp ∷ [], T.1.tier) (stays (core_of k) T.1.others)
+  answers k (Read s) charge T = of_core (core_of k) (serves _ _ T.block T.mark s T.level T.tier) (stays (core_of k) T.others)
+  answers k (Wrote s) charge T =
       of_core (core_of k)
       (then_becomes _ (served (tier_at r.cores (core_of k)) T.block T.mark T.before T.level) _ (serves _ _ T.block T.mark T.before T.level refl)
       (change T.block Modified s ∷ [], T.tier))
       (λ ne. gives_up _ _ T.block T.mark (T.tiers d ne))
-  turns k (Ok (Flushed n)) charge T = cleans (core_of k) n charge T.2
-  turns k (Ok (Committed true)) charge T = cleans (core_of k) T.0 charge T.2
-  turns k (Ok (Committed false)) charge T = ([], ap (λ cs. tier_at cs d) T.2.1)
-  turns k (Err e) charge T = ([], ap (λ (x : RunMeaning). tier_at x.cores d) T.0)
+  answers k (Flushed n) charge T = cleans (core_of k) n charge T.2
+  answers k (Committed true) charge T = cleans (core_of k) T.0 charge T.2
+  answers k (Committed false) charge T = ([], ap (λ cs. tier_at cs d) T.2.1)
+
+  pub turns : (k : Call) (x : Result Answer Refusal) (charge : ℕ) → Told k r r' x charge → Turns
+  turns k (Ok x) charge T = answers k x charge T.1
+  turns k (Err e) charge T = ([], ap (λ (x : RunMeaning). tier_at x.cores d) T.1)

@@ -161,6 +161,9 @@ counts (k ∷ ks) r =
       bounded = λ h b. rest.bounded (subst Affordable (sym here.prices) h) (here.bounded h b);
     }
 
+pub prices-kept : (ks : List Call) (r : RunMeaning) → (played r ks).prices ≡ r.prices
+prices-kept ks r = (counts ks r).prices
+
 -- the totals that are noted add up
 totals_from : (ks : List Call) (r : RunMeaning) → TotalsFrom r.prices r.tally.total (history r ks) (played r ks).tally.total
 unfolding history played TotalsFrom
@@ -179,7 +182,6 @@ reported cs m w ok ks =
       steps = omega (arith, all.steps);
       writes = omega (arith, all.writes);
       accesses = omega (arith, all.accesses);
-      prices = all.prices;
       total = omega (arith, all.total);
       totals = totals_from ks r;
       charges = λ k. (fair-step end k).cheap (subst Affordable (sym all.prices) ok);

@@ -4,6 +4,7 @@ pub mod Memories
 pub mod Rows
 pub mod Sound
 pub mod Rests
+pub mod Questioning
 pub mod Accesses
 pub mod Steps
 pub mod Calling

@@ -22,11 +22,11 @@ use Rattle.protocol.specs.declared.weights.Movement.TheVariants.{Still, FromLeve
 use Rattle.protocol.specs.Accesses.{block_of}
 use Rattle.protocol.specs.Calls.{core_of, fits_in}
 use Rattle.moves.specs.Moves.{is_modified, put_back_out}
-use Rattle.row.specs.Cores.{CoreMeaning, count_of, tier_at, state_at, met, awaited}
+use Rattle.row.specs.Cores.{CoreMeaning, count_of, tier_at, state_at, met}
 use Rattle.study.specs.declared.effect.Performed.{Performed}
 use Rattle.study.specs.declared.effect.Performed.TheVariants.{Nothing, Read as ARead, Write as AWrite}
 use Rattle.study.specs.Run.{RunMeaning, Outcome, most_steps}
-use Rattle.study.specs.Step.{valid, memory_taking_as, memory_taking, movement_as, movement_of, accepted, refused, provided, brought_up, pushed_out, recalled, alone_memory, access_by, access, fetched_line, fetch_by, modified_at, flush_by, commit_by, act, step}
+use Rattle.study.specs.Step.{valid, memory_taking_as, memory_taking, movement_as, movement_of, accepted, refused, provided, brought_up, pushed_out, recalled, alone_memory, access_by, access, fetched_line, fetch_by, modified_at, owed, flush_by, commit_by, act, step}
 
 -- what was performed, by the answer
 abbrev pub performed_by : Answer → Performed
@@ -121,7 +121,7 @@ module _ (P : MemoryMeaning → Type 0) (next : (m : MemoryMeaning) (c : MemoryC
 
       of_flush : (c n : ℕ) (o : Option ℕ) → Q (flush_by r c n o)
       of_flush c n None = no NotOwed
-      of_flush c n (Some s) = if_provided (awaited 0 c n r.cores) NotOwed _ (yes room _ _ (next r.memory (store n s) start) Memory Still (Flushed n) (refl, refl))
+      of_flush c n (Some s) = yes room _ _ (next r.memory (store n s) start) Memory Still (Flushed n) (refl, refl)
 
       of_commit : (c n : ℕ) (o : Option ℕ) → Q (commit_by r c n o)
       of_commit c n None = yes room _ _ start Still Still (Committed false) (refl, refl)
@@ -143,9 +143,9 @@ module _ (P : MemoryMeaning → Type 0) (next : (m : MemoryMeaning) (c : MemoryC
       of_act (Resume c) Ready = no WrongState
       of_act (Resume c) (Waiting a) = no WrongState
       of_act (Resume c) (Due a) = by_access c a
-      of_act (Flush c n) Ready = of_flush c n (modified_at r c n)
-      of_act (Flush c n) (Waiting a) = of_flush c n (modified_at r c n)
-      of_act (Flush c n) (Due a) = of_flush c n (modified_at r c n)
+      of_act (Flush c n) Ready = of_flush c n (owed r c n)
+      of_act (Flush c n) (Waiting a) = of_flush c n (owed r c n)
+      of_act (Flush c n) (Due a) = of_flush c n (owed r c n)
       of_act (Commit c n) Ready = of_commit c n (modified_at r c n)
       of_act (Commit c n) (Waiting a) = no WrongState
       of_act (Commit c n) (Due a) = no WrongState

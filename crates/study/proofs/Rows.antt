@@ -18,7 +18,8 @@ use Rattle.row.specs.declared.operation.Operation.{Operation}
 use Rattle.row.specs.Cores.{CoreMeaning, core, absent, core_at, place, tier_at, state_at, turned, operated, done, reaches, dropped, invalidated, later, met_by, met, awaits, awaited}
 use Rattle.study.specs.Step.{alone_cores}
 use Rattle.study.specs.Coherence.{copy_of}
-use Rattle.study.specs.Told.{given_up, Wanted}
+use Rattle.study.specs.Questions.{Wanted}
+use Rattle.study.specs.Told.{given_up}
 use Rattle.study.proofs.Tiers.{held, lawful-after}
 
 -- in a row of at most eight, every core is at its place

@@ -1,18 +1,19 @@
 -- Sound cores and memory: every block is consistent. What one core may do to its copies, and how a core makes a block its own.
-use Rattle.std.proofs.Common.{◌≡◌, ℕ, ◌<◌, ◌≤◌, ◌≢◌, List, length, Some, None, refl, ◌∙◌, ⊎_elim, arith}
+use Rattle.std.proofs.Common.{◌≡◌, ℕ, ◌<◌, ◌≤◌, cond, eqb, ◌≢◌, List, length, Some, None, Option, refl, ap, ◌∙◌, subst, ⊎_elim, arith}
 use native.Mathlib.Decide.{ℕ_discrete}
 use Rattle.std.proofs.lemmas.Bool.{cases_lt, eq-eqb, ne_eqb}
-use Rattle.tier.specs.Meaning.{Lawful}
+use Rattle.tier.specs.Meaning.{Holding, bare, Lawful}
 use Rattle.tier.specs.Options.{none-some}
 use Rattle.memory.specs.Meaning.{MemoryMeaning, size_of, Lawful as LawfulMemory}
-use Rattle.row.specs.Cores.{CoreMeaning, tier_at}
+use Rattle.moves.specs.Moves.{modified_stamp}
+use Rattle.row.specs.Cores.{CoreMeaning, tier_at, met}
 use Rattle.study.specs.Step.{valid}
 use Rattle.study.specs.Book.{but}
 use Rattle.study.specs.Coherence.{copy_of}
-use Rattle.study.proofs.Block.{Copy, modified, Consistent, owned, unchanged, Change, none_stays, changed}
+use Rattle.study.proofs.Block.{Copy, shared, modified, AtMostShared, Consistent, owned, sharer, unchanged, Change, none_stays, changed}
 use Rattle.study.proofs.Tiers.{held}
 use Rattle.study.proofs.Memories.{valid-outside, Kept}
-use Rattle.study.proofs.Rows.{Replaced, copy_here, copy_there, tiers-lawful, Alone}
+use Rattle.study.proofs.Rows.{at_place, Replaced, copy_here, copy_there, tiers-lawful, Alone, met-none}
 
 -- num n is the number of block n
 pub record Sound (cs : List CoreMeaning) (m : MemoryMeaning) (num : ℕ → ℕ) : Type 0 where
@@ -30,10 +31,24 @@ pub but-other : (f : ℕ → ℕ) (k v x : ℕ) → x ≢ k → but f k v x ≡ 
 unfolding but
 but-other f k v x ne = rw (ne_eqb x k ne)
 
+-- a shared copy has no modified stamp
+pub at_most : (k : ℕ) (o : Option Holding) → AtMostShared k (bare o) → modified_stamp o ≡ None
+at_most k None f = refl
+at_most k (Some h) f =
+    let z : h.0 ≡ 0 = ap (λ (y : Copy). y.0) (f (h.0, h.1) refl) in
+    ap (λ i. cond (eqb i 1) (Some h.1) None) z
+
 module _ (cs : List CoreMeaning) (m : MemoryMeaning) (num : ℕ → ℕ) (S : Sound cs m num) where
   -- a block that is held is in the memory
   pub inside : (c n : ℕ) (x : Copy) → copy_of cs c n ≡ Some x → n < size_of m
   inside c n x e = ⊎_elim (λ h. h) (λ h. none-some (copy_of cs c n) x (S.outside n h c) e) (cases_lt n (size_of m))
+
+  -- the message of a core with a shared copy meets no modified one
+  pub meets-none : (c n s : ℕ) → copy_of cs c n ≡ Some (shared s) → met 0 c n cs ≡ None
+  meets-none c n s e = met-none 0 c n cs (λ d j q ne lt. at_most (num n) _ (subst (λ (x : CoreMeaning). AtMostShared (num n) (held x.tier n)) (at_place cs d S.short) (all d)))
+    where
+      all : (d : ℕ) → AtMostShared (num n) (copy_of cs d n)
+      all = (sharer (num n) _ _ c s e (S.blocks n (inside c n _ e))).1
 
   -- core c is replaced by x, and each block changes as it may
   module _ (cs' : List CoreMeaning) (m' : MemoryMeaning) (c : ℕ) (x : CoreMeaning) (R : Replaced cs cs' c x) where

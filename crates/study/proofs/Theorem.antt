@@ -1,5 +1,5 @@
 -- After any calls, cores and memory are coherent and every read was honest.
-use Rattle.std.proofs.Common.{◌≡◌, ℕ, zero, suc, ◌+◌, ◌<◌, ◌≤◌, false, cond, eqb, ◌≢◌, ⊎_elim, List, [], ◌∷◌, length, get_or, Some, None, Option, sym, refl, ap, ◌∙◌, subst, le_of_suc-le-suc, not-suc-le-zero, arith}
+use Rattle.std.proofs.Common.{◌≡◌, ℕ, zero, suc, ◌+◌, ◌<◌, ◌≤◌, min, false, eqb, ◌≢◌, ⊎_elim, List, [], ◌∷◌, length, get_or, Some, None, Option, sym, refl, ap, ◌∙◌, subst, le_of_suc-le-suc, not-suc-le-zero, arith}
 use mathlib.Core.Bool.{false≢true}
 use native.Mathlib.Decide.{ℕ_discrete}
 use Rattle.std.proofs.lemmas.Bool.{cases_lt}
@@ -11,7 +11,7 @@ use Rattle.protocol.specs.declared.access.CoreState.TheVariants.{Ready}
 use Rattle.protocol.specs.declared.call.Call.{Call}
 use Rattle.protocol.specs.Answers.{word_of}
 use Rattle.protocol.specs.declared.weights.Prices.{Prices}
-use Rattle.moves.specs.Moves.{is_modified, modified_stamp, raised}
+use Rattle.moves.specs.Moves.{is_modified, raised}
 use Rattle.row.specs.declared.operation.Operation.TheVariants.{BringUp}
 use Rattle.row.specs.Cores.{CoreMeaning, core, absent, count_of, core_at, tier_at, met, renewed, AllLawful}
 use Rattle.study.specs.Run.{RunMeaning}
@@ -21,15 +21,17 @@ use Rattle.study.specs.Play.{played, history}
 use Rattle.study.specs.Book.{Book, new_book, noted, HonestFrom}
 use Rattle.study.specs.Coherence.{copy_of, Coherent, Unmet}
 use Rattle.study.specs.Told.{Tells}
-use Rattle.study.specs.Warrant.{Becomes}
+use Rattle.study.specs.Warrant.{Becomes, SameMachine}
 use Rattle.study.proofs.Block.{Copy, shared, modified, AtMostShared, Consistent, clean, owned, owner, sharer, stamped}
 use Rattle.study.proofs.Tiers.{held, lawful-after}
 use Rattle.study.proofs.Memories.{valid-named, valid-others}
 use Rattle.study.proofs.Rows.{at_place, past, absent-holds, absent_shows, Replaced, turned-done, met-none}
-use Rattle.study.proofs.Sound.{Sound, inside}
+use Rattle.study.proofs.Sound.{Sound, inside, at_most}
 use Rattle.study.proofs.Accesses.{Inv}
 use Rattle.study.proofs.Steps.{step-good}
 use Rattle.study.proofs.Calling.{still, then_becomes, turns}
+use Rattle.study.proofs.Loans.{played-keeps}
+use Rattle.study.proofs.Counting.{prices-kept}
 
 -- a block that no core owns is clean
 unowned : (k : ℕ) (h : ℕ → Option Copy) (v : Option ℕ) → Consistent k h v → ((c s : ℕ) → h c ≡ Some (modified s) → ⊥)
@@ -128,6 +130,21 @@ unfolding played
 played-inv [] r b I = (b, I)
 played-inv (k ∷ ks) r b I = played-inv ks (step r k).run (noted b k (word_of (step r k).answer)) (step-good r b I k).inv
 
+-- no call alters how many cores and blocks there are
+played-cores : (ks : List Call) (r : RunMeaning) (b : Book) → Inv r b → length (played r ks).cores ≡ length r.cores
+unfolding played
+played-cores [] r b I = refl
+played-cores (k ∷ ks) r b I =
+    let G = step-good r b I k in
+    played-cores ks (step r k).run (noted b k (word_of (step r k).answer)) G.inv ∙ G.cores
+
+played-blocks : (ks : List Call) (r : RunMeaning) (b : Book) → Inv r b → size_of (played r ks).memory ≡ size_of r.memory
+unfolding played
+played-blocks [] r b I = refl
+played-blocks (k ∷ ks) r b I =
+    let G = step-good r b I k in
+    played-blocks ks (step r k).run (noted b k (word_of (step r k).answer)) G.inv ∙ G.blocks
+
 played-honest : (ks : List Call) (r : RunMeaning) (b : Book) → Inv r b → HonestFrom b (history r ks)
 unfolding history HonestFrom
 played-honest [] r b I = tt
@@ -140,13 +157,6 @@ played-tiers (k ∷ ks) r b I c =
     let G = step-good r b I k in
     then_becomes _ (tier_at (step r k).run.cores c) _ (turns r (step r k).run c k (step r k).answer (step r k).charge G.told)
     (played-tiers ks (step r k).run (noted b k (word_of (step r k).answer)) G.inv c)
-
--- where one copy is shared, no copy is modified
-at_most : (k : ℕ) (o : Option Holding) → AtMostShared k (bare o) → modified_stamp o ≡ None
-at_most k None f = refl
-at_most k (Some h) f =
-    let z : h.0 ≡ 0 = ap (λ (y : Copy). y.0) (f (h.0, h.1) refl) in
-    ap (λ i. cond (eqb i 1) (Some h.1) None) z
 
 unmodified : (i : ℕ) → i ≤ 1 → eqb i 1 ≡ false → i ≡ 0
 unmodified zero h e = refl
@@ -190,11 +200,21 @@ module _ (cs : List CoreMeaning) (m : MemoryMeaning) (w : Prices) (few : count_o
   pub zeros : (n : ℕ) → n < size_of m → valid (opened cs m w).memory n ≡ Some 0
   zeros = (zeroes (size_of m) m okm (omega arith)).zeros
 
+  pub machine : (ks : List Call) → SameMachine cs m w (played (opened cs m w) ks)
+  machine ks = record {
+    cores = ap (min 9) (played-cores ks (opened cs m w) new_book start ∙ renewed-size cs);
+    blocks = played-blocks ks (opened cs m w) new_book start ∙ (zeroes (size_of m) m okm (omega arith)).size;
+    prices = prices-kept ks (opened cs m w);
+  }
+
   pub told : (ks : List Call) (k : Call) → Tells (played (opened cs m w) ks) k
   told ks k = (step-good _ (at_end ks).0 (at_end ks).1 k).told
 
   pub tiers-called : (ks : List Call) (c : ℕ) → Becomes (tier_at (opened cs m w).cores c) (tier_at (played (opened cs m w) ks).cores c)
   tiers-called ks c = played-tiers ks (opened cs m w) new_book start c
+
+  pub memory-called : (ks : List Call) → Becomes (opened cs m w).memory (played (opened cs m w) ks).memory
+  memory-called ks = played-keeps (Becomes (opened cs m w).memory) (λ n c h. then_becomes _ n _ h (c ∷ [], refl)) ks (opened cs m w) (still _)
 
   pub coherence : (ks : List Call) → Coherent (played (opened cs m w) ks).cores (played (opened cs m w) ks).memory
   coherence ks = coherent _ _ _ (at_end ks).1.sound

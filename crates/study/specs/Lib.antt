@@ -5,6 +5,7 @@ pub mod Play
 pub mod Words
 pub mod Book
 pub mod Coherence
+pub mod Questions
 pub mod Told
 pub mod Report
 pub mod Figure

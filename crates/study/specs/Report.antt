@@ -56,8 +56,7 @@ pub record Reported (r : RunMeaning) (ks : List Call) : Type 0 where
   pub steps : (played r ks).tally.steps ≡ counted is_accepted (history r ks)
   pub writes : (played r ks).tally.writes ≡ counted is_wrote (history r ks)
   pub accesses : (played r ks).tally.accesses ≡ counted is_access (history r ks)
-  -- no step alters the weights, and the total is the sum of what the steps charged
-  pub prices : (played r ks).prices ≡ r.prices
+  -- the total is the sum of what the steps charged
   pub total : (played r ks).tally.total ≡ charged_for r ks
   pub totals : TotalsFrom r.prices 0 (history r ks) (played r ks).tally.total
   pub charges : (k : Call) → (step (played r ks) k).charge ≤ most_charge

@@ -1,5 +1,5 @@
 -- One step of a run.
-use Rattle.std.specs.Prelude.{ℕ, ◌+◌, Bool, true, false, List, Some, None, Ok, Err, Option, Result, nat_lt}
+use Rattle.std.specs.Prelude.{ℕ, ◌+◌, Bool, true, false, cond, List, Some, None, Ok, Err, Option, Result, nat_lt}
 use Rattle.device.specs.Device.{after}
 use Rattle.parts.specs.declared.mark.Mark.{Mark}
 use Rattle.parts.specs.declared.mark.Mark.TheVariants.{Shared, Modified}
@@ -118,6 +118,14 @@ access_by r c (ToWrite n) (Some h) = writing r c n h
 abbrev pub access : RunMeaning → ℕ → Access → Outcome
 access r c a = access_by r c a (look_of (tier_at r.cores c) (block_of a))
 
+-- the stamp with which memory has the block valid that a core in such a state waits for
+abbrev pub fetchable_in : MemoryMeaning → CoreState → Option ℕ
+fetchable_in m (Waiting a) = valid m (block_of a)
+fetchable_in m _ = None
+
+abbrev pub fetchable : RunMeaning → ℕ → Option ℕ
+fetchable r c = fetchable_in r.memory (state_at r.cores c)
+
 -- the block that core c waits for comes from memory, which has it with the stamp s
 abbrev pub fetched_line : RunMeaning → ℕ → Access → ℕ → Option Line
 fetched_line r c a s = operated_out (tier_at r.cores c) (Put (line (block_of a) Shared s))
@@ -144,12 +152,20 @@ cleaning r c n s x = accepted r (done r.cores c (Change (line n Shared s))) (aft
 abbrev pub modified_at : RunMeaning → ℕ → ℕ → Option ℕ
 modified_at r c n = modified_stamp (look_of (tier_at r.cores c) n)
 
+-- the stamp of block n that core c owes to memory: it holds the block modified, and another core waits for it
+abbrev pub owed_of : RunMeaning → ℕ → ℕ → Option ℕ → Option ℕ
+owed_of r c n None = None
+owed_of r c n (Some s) = cond (awaited 0 c n r.cores) (Some s) None
+
+abbrev pub owed : RunMeaning → ℕ → ℕ → Option ℕ
+owed r c n = owed_of r c n (modified_at r c n)
+
 abbrev pub flush_by : RunMeaning → ℕ → ℕ → Option ℕ → Outcome
 flush_by r c n None = refused r NotOwed
-flush_by r c n (Some s) = provided (awaited 0 c n r.cores) NotOwed r (cleaning r c n s (Flushed n))
+flush_by r c n (Some s) = cleaning r c n s (Flushed n)
 
 abbrev pub flush : RunMeaning → ℕ → ℕ → Outcome
-flush r c n = flush_by r c n (modified_at r c n)
+flush r c n = flush_by r c n (owed r c n)
 
 abbrev pub commit_by : RunMeaning → ℕ → ℕ → Option ℕ → Outcome
 commit_by r c n None = accepted r r.cores r.memory Nothing Still Still (Committed false)
