@@ -122,20 +122,23 @@ module _ (r : RunMeaning) (b : Book) (k : Call) (S : Sound r.cores r.memory b.nu
           states = stands_replaced _ _ (asking k b.asked) cs _ c _ R refl states (h, q, ap bare e);
           count = add-zero _ ∙ count;
         };
-        told = (may, record {
-          wanted = a;
-          asked = asks;
-          block = refl;
-          lacked = ap bare e;
-          waits = ap (λ (x : CoreMeaning). x.state) R.here;
-          others = R.there;
-          tiers = λ d. elim (ℕ_discrete d c) [
-            | yes q ↦ rw q (ap (λ (x : CoreMeaning). x.tier) R.here)
-            | no ne ↦ ap (λ (x : CoreMeaning). x.tier) (R.there d ne)
-          ];
-          memory = refl;
-          charged = refl;
-        });
+        told = (
+          may,
+          record {
+            wanted = a;
+            asked = asks;
+            block = refl;
+            lacked = ap bare e;
+            waits = ap (λ (x : CoreMeaning). x.state) R.here;
+            others = R.there;
+            tiers = λ d. elim (ℕ_discrete d c) [
+              | yes q ↦ rw q (ap (λ (x : CoreMeaning). x.tier) R.here)
+              | no ne ↦ ap (λ (x : CoreMeaning). x.tier) (R.there d ne)
+            ];
+            memory = refl;
+            charged = refl;
+          },
+        );
         cores = R.size;
         blocks = refl;
         honest = silent;
@@ -210,25 +213,28 @@ module _ (r : RunMeaning) (b : Book) (k : Call) (S : Sound r.cores r.memory b.nu
         states = stands_replaced _ _ (asking k b.asked) cs cs₁ c _ replaced₁ size₁ states tt;
         count = add-zero _ ∙ count;
       };
-      told = (may, record {
-        block = n;
-        asked = asks;
-        mark = mark.0;
-        level = h.2;
-        access = record {
-          held = held₁;
-          ready = ap (λ (x : CoreMeaning). x.state) replaced₁.here;
-          rest = rest-of r _ c n t₁ out S.memory (inside cs m b.number S c) (λ j ne. copy_here cs cs₁ c _ replaced₁ j) (λ j ne. refl) (λ j ne. up.passed j) stays₁;
-          weight = level_price r.prices h.2;
-          level = weight₁;
-          charged = cost₁;
-        };
-        holds = ap (λ (x : CoreMeaning). look_of x.tier n) replaced₁.here ∙ first₁ ∙ ap (λ i. Some (i, h.1, 1)) (sym mark.2);
-        stays = left-others m S.memory out n stays₁;
-        tier = ap (λ (x : CoreMeaning). x.tier) replaced₁.here ∙ served₁;
-        others = replaced₁.there;
-        memory = takes out m;
-      });
+      told = (
+        may,
+        record {
+          block = n;
+          asked = asks;
+          mark = mark.0;
+          level = h.2;
+          access = record {
+            held = held₁;
+            ready = ap (λ (x : CoreMeaning). x.state) replaced₁.here;
+            rest = rest-of r _ c n t₁ out S.memory (inside cs m b.number S c) (λ j ne. copy_here cs cs₁ c _ replaced₁ j) (λ j ne. refl) (λ j ne. up.passed j) stays₁;
+            weight = level_price r.prices h.2;
+            level = weight₁;
+            charged = cost₁;
+          };
+          holds = ap (λ (x : CoreMeaning). look_of x.tier n) replaced₁.here ∙ first₁ ∙ ap (λ i. Some (i, h.1, 1)) (sym mark.2);
+          stays = left-others m S.memory out n stays₁;
+          tier = ap (λ (x : CoreMeaning). x.tier) replaced₁.here ∙ served₁;
+          others = replaced₁.there;
+          memory = takes out m;
+        },
+      );
       cores = replaced₁.size;
       blocks = size₁;
       honest = λ _. rw q (stamped (b.number n) _ _ c (h.0, h.1) (ap bare e) (S.blocks n within));
@@ -297,32 +303,35 @@ module _ (r : RunMeaning) (b : Book) (k : Call) (S : Sound r.cores r.memory b.nu
         let Kept-by : Bool → Type 0 = λ x. Inv (writing r c n h).run (cond x credited (heard b k Wrote)) in
         record {
           inv = subst Kept-by (sym credit) written;
-          told = (may, record {
-            block = n;
-            asked = asks;
-            mark = mark.0;
-            before = h.1;
-            level = h.2;
-            access = record {
-              held = held₁;
-              ready = ap (λ (x : CoreMeaning). x.state) replaced₂.here;
-              rest = rest-of r _ c n t₁ out S.memory (inside cs m b.number S c)
-                  (λ j ne. copy_here cs₂ _ c _ replaced₂ j ∙ change-others t₁ up.lawful n Modified w j ne) kept₂.others (λ j ne. up.passed j) stays₁;
-              weight = level_price r.prices h.2;
-              level = weight₁;
-              charged = cost₁;
-            };
-            holds = ap (λ (x : CoreMeaning). look_of x.tier n) replaced₂.here ∙ (up.lawful []).change_in n Modified w (h.0, h.1, 1) first₁;
-            tier = ap (λ (x : CoreMeaning). x.tier) replaced₂.here ∙ ap (λ i. after i (change n Modified w)) served₁;
-            alone = λ d ne. copy_there cs₂ _ c _ replaced₂ n d ne ∙ (alone₂.there d ne).empty;
-            stale = stale₂;
-            newest = refl;
-            states = λ d ne. ap (λ (x : CoreMeaning). x.state) (replaced₂.there d ne) ∙ (alone₂.there d ne).state ∙ ap (λ (x : CoreMeaning). x.state) (replaced₁.there d ne);
-            others = λ d j ne nj. copy_there cs₂ _ c _ replaced₂ j d ne ∙ (alone₂.there d ne).others j nj ∙ copy_there cs cs₁ c _ replaced₁ j d ne;
-            tiers = λ d ne. ap (λ (x : CoreMeaning). x.tier) (replaced₂.there d ne) ∙ given_up₂ d ne
-                ∙ ap (λ (x : CoreMeaning). given_up mark.0 n x.tier) (replaced₁.there d ne);
-            memory = outdated₂;
-          });
+          told = (
+            may,
+            record {
+              block = n;
+              asked = asks;
+              mark = mark.0;
+              before = h.1;
+              level = h.2;
+              access = record {
+                held = held₁;
+                ready = ap (λ (x : CoreMeaning). x.state) replaced₂.here;
+                rest = rest-of r _ c n t₁ out S.memory (inside cs m b.number S c)
+                    (λ j ne. copy_here cs₂ _ c _ replaced₂ j ∙ change-others t₁ up.lawful n Modified w j ne) kept₂.others (λ j ne. up.passed j) stays₁;
+                weight = level_price r.prices h.2;
+                level = weight₁;
+                charged = cost₁;
+              };
+              holds = ap (λ (x : CoreMeaning). look_of x.tier n) replaced₂.here ∙ (up.lawful []).change_in n Modified w (h.0, h.1, 1) first₁;
+              tier = ap (λ (x : CoreMeaning). x.tier) replaced₂.here ∙ ap (λ i. after i (change n Modified w)) served₁;
+              alone = λ d ne. copy_there cs₂ _ c _ replaced₂ n d ne ∙ (alone₂.there d ne).empty;
+              stale = stale₂;
+              newest = refl;
+              states = λ d ne. ap (λ (x : CoreMeaning). x.state) (replaced₂.there d ne) ∙ (alone₂.there d ne).state ∙ ap (λ (x : CoreMeaning). x.state) (replaced₁.there d ne);
+              others = λ d j ne nj. copy_there cs₂ _ c _ replaced₂ j d ne ∙ (alone₂.there d ne).others j nj ∙ copy_there cs cs₁ c _ replaced₁ j d ne;
+              tiers = λ d ne. ap (λ (x : CoreMeaning). x.tier) (replaced₂.there d ne) ∙ given_up₂ d ne
+                  ∙ ap (λ (x : CoreMeaning). given_up mark.0 n x.tier) (replaced₁.there d ne);
+              memory = outdated₂;
+            },
+          );
           cores = replaced₂.size ∙ alone₂.size ∙ replaced₁.size;
           blocks = kept₂.size ∙ size₁;
           honest = silent;

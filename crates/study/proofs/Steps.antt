@@ -153,23 +153,26 @@ module _ (r : RunMeaning) (b : Book) (I : Inv r b) where
             };
             told = (
               allowed (Fetch c) r N (a, e) (record { wanted = a; waits = e; stamp = s; stored = v }) tt,
-              (refl, record {
-                wanted = a;
-                waited = e;
-                block = refl;
-                lacked = stands.2;
-                stamp = s;
-                stored = v;
-                stays = left-others m S.memory out n (put-stays t ok n Shared s free) ∙ v;
-                holds = ap (λ (x : CoreMeaning). look_of x.tier n) R.here ∙ (ok []).put_in n Shared s free;
-                due = ap (λ (x : CoreMeaning). x.state) R.here;
-                tier = ap (λ (x : CoreMeaning). x.tier) R.here;
-                others = R.there;
-                rest = rest-of r _ c n (after t (put n Shared s)) out S.memory (inside cs m b.number S c) (λ j ne. copy_here cs _ c _ R j) (λ j ne. refl)
-                    (λ j ne. put-passes t ok n Shared s free j ne) (put-stays t ok n Shared s free);
-                memory = takes out m;
-                charged = ap (λ i. r.prices.wm + i) (leaving_cost r.prices out);
-              }),
+              (
+                refl,
+                record {
+                  wanted = a;
+                  waited = e;
+                  block = refl;
+                  lacked = stands.2;
+                  stamp = s;
+                  stored = v;
+                  stays = left-others m S.memory out n (put-stays t ok n Shared s free) ∙ v;
+                  holds = ap (λ (x : CoreMeaning). look_of x.tier n) R.here ∙ (ok []).put_in n Shared s free;
+                  due = ap (λ (x : CoreMeaning). x.state) R.here;
+                  tier = ap (λ (x : CoreMeaning). x.tier) R.here;
+                  others = R.there;
+                  rest = rest-of r _ c n (after t (put n Shared s)) out S.memory (inside cs m b.number S c) (λ j ne. copy_here cs _ c _ R j) (λ j ne. refl)
+                      (λ j ne. put-passes t ok n Shared s free j ne) (put-stays t ok n Shared s free);
+                  memory = takes out m;
+                  charged = ap (λ i. r.prices.wm + i) (leaving_cost r.prices out);
+                },
+              ),
             );
             cores = R.size;
             blocks = left-size m S.memory out;

@@ -6,6 +6,7 @@ use protocol::weights::Weights;
 
 pub mod opening;
 pub mod play;
+pub mod questions;
 pub mod settling;
 pub mod steps;
 

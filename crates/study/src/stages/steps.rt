@@ -151,19 +151,8 @@ impl<R: Row, M: Memory> Run<R, M> {
     fn flush(&mut self, core: u16, block: u16) -> Result<Effect, Refusal>
         ensures { Does R.cores M.meaning self.old self.new result (flush (run_of R.cores M.meaning self.old) core block) }
     {
-        let message = Message {
-            sender: core,
-            block,
-        };
-        match modified_stamp(self.row.look(core, block)) {
-            Some(stamp) if self.row.awaited(0, message) => Ok(self.clean(
-                core,
-                block,
-                stamp,
-                Answer::Flushed(block),
-            )),
-            _ => Err(Refusal::NotOwed),
-        }
+        let stamp = self.owed(core, block).ok_or(Refusal::NotOwed)?;
+        Ok(self.clean(core, block, stamp, Answer::Flushed(block)))
     }
 
     #[inline(always)]
@@ -185,7 +174,7 @@ impl<R: Row, M: Memory> Run<R, M> {
     fn act(&mut self, call: Call) -> Result<Effect, Refusal>
         ensures { Does R.cores M.meaning self.old self.new result (act (run_of R.cores M.meaning self.old) call (state_at (R.cores self.old.row) (core_of call))) }
     {
-        match (call, self.row.state(call.core())) {
+        match (call, self.state(call.core())) {
             (Call::Read(core, block), CoreState::Ready) => Ok(self.perform(
                 core,
                 Access::Read(block),
