@@ -8,6 +8,7 @@ pub mod Questioning
 pub mod Accesses
 pub mod Steps
 pub mod Deciding
+pub mod Choices
 pub mod Calling
 pub mod Theorem
 pub mod Outcomes

@@ -21,6 +21,7 @@ use Rattle.study.specs.Play.{played, history}
 use Rattle.study.specs.Book.{Book, new_book, noted, HonestFrom}
 use Rattle.study.specs.Coherence.{copy_of, Coherent, Unmet}
 use Rattle.study.specs.Told.{Tells}
+use Rattle.study.specs.Decided.{Decided}
 use Rattle.study.specs.Warrant.{Becomes, SameMachine}
 use Rattle.study.proofs.Block.{Copy, shared, modified, AtMostShared, Consistent, clean, owned, owner, sharer, stamped}
 use Rattle.study.proofs.Tiers.{held, lawful-after}
@@ -29,6 +30,7 @@ use Rattle.study.proofs.Rows.{at_place, past, absent-holds, absent_shows, Replac
 use Rattle.study.proofs.Sound.{Sound, inside, at_most}
 use Rattle.study.proofs.Accesses.{Inv}
 use Rattle.study.proofs.Steps.{step-good}
+use Rattle.study.proofs.Choices.{alike}
 use Rattle.study.proofs.Calling.{still, then_becomes, turns}
 use Rattle.study.proofs.Loans.{played-keeps}
 use Rattle.study.proofs.Counting.{prices-kept}
@@ -209,6 +211,9 @@ module _ (cs : List CoreMeaning) (m : MemoryMeaning) (w : Prices) (few : count_o
 
   pub told : (ks : List Call) (k : Call) → Tells (played (opened cs m w) ks) k
   told ks k = (step-good _ (at_end ks).0 (at_end ks).1 k).told
+
+  pub decided : (ks : List Call) (k : Call) → Decided (played (opened cs m w) ks) k
+  decided ks k r' x e T = alike k (played (opened cs m w) ks) r' _ e _ x _ T (told ks k)
 
   pub tiers-called : (ks : List Call) (c : ℕ) → Becomes (tier_at (opened cs m w).cores c) (tier_at (played (opened cs m w) ks).cores c)
   tiers-called ks c = played-tiers ks (opened cs m w) new_book start c

@@ -7,6 +7,7 @@ pub mod Book
 pub mod Coherence
 pub mod Questions
 pub mod Told
+pub mod Decided
 pub mod Report
 pub mod Figure
 pub mod Warrant

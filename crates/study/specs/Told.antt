@@ -164,7 +164,8 @@ pub record NowRead (k : Call) (c s : ℕ) (r r' : RunMeaning) (charge : ℕ) : T
   pub others : OthersStay c r r'
   pub memory : r'.memory ≡ taking access.rest.leaver r.memory
 
--- core c held the block that it was asked to write; no other core has it now, nor has memory, and s is the number of writes so far
+-- core c held the block that it was asked to write; no other core has it now, nor has memory, and its stamp s is
+-- one more than the writes before
 pub record NowWrote (k : Call) (c s : ℕ) (r r' : RunMeaning) (charge : ℕ) : Type 0 where
   pub block : ℕ
   pub asked : Asks k (state_at r.cores c) (ToWrite block)
@@ -173,7 +174,7 @@ pub record NowWrote (k : Call) (c s : ℕ) (r r' : RunMeaning) (charge : ℕ) : 
   pub level : ℕ
   pub access : Accessed c block mark before level r r' charge
   pub holds : HoldsAt r'.cores c block Modified s 1
-  pub newest : s ≡ r'.tally.writes
+  pub newest : s ≡ r.tally.writes + 1
   pub alone : (d : ℕ) → d ≢ c → Lacks r'.cores d block
   pub stale : valid r'.memory block ≡ None
   pub tier : tier_at r'.cores c ≡ after (served (tier_at r.cores c) block mark before level) (change block Modified s)

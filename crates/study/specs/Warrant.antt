@@ -16,6 +16,7 @@ use Rattle.study.specs.Opening.{opened}
 use Rattle.study.specs.Play.{played, history}
 use Rattle.study.specs.Coherence.{Lacks, Coherent, Unmet}
 use Rattle.study.specs.Told.{Tells}
+use Rattle.study.specs.Decided.{Decided}
 use Rattle.study.specs.Book.{new_book, HonestFrom}
 use Rattle.study.specs.Report.{Reported}
 
@@ -46,6 +47,8 @@ pub record Warranted (cs : List CoreMeaning) (m : MemoryMeaning) (w : Prices) : 
   -- no call alters how many cores and blocks there are, nor the weights
   pub machine : (ks : List Call) → SameMachine cs m w (played (opened cs m w) ks)
   pub told : (ks : List Call) (k : Call) → Tells (played (opened cs m w) ks) k
+  -- what is told of a call leaves no choice
+  pub decided : (ks : List Call) (k : Call) → Decided (played (opened cs m w) ks) k
   -- each core's tier is what calls of a tier have made of the one that was opened, and the memory what calls of a memory have
   pub tiers : (ks : List Call) (c : ℕ) → Becomes (tier_at (opened cs m w).cores c) (tier_at (played (opened cs m w) ks).cores c)
   pub memory : (ks : List Call) → Becomes (opened cs m w).memory (played (opened cs m w) ks).memory
