@@ -7,7 +7,7 @@ pub mod Rests
 pub mod Questioning
 pub mod Accesses
 pub mod Steps
-pub mod Deciding
+pub mod Foretelling
 pub mod Choices
 pub mod Calling
 pub mod Theorem

@@ -8,6 +8,7 @@ pub mod Coherence
 pub mod Questions
 pub mod Told
 pub mod Decided
+pub mod Foretold
 pub mod Report
 pub mod Figure
 pub mod Warrant

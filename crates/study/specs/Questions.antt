@@ -1,5 +1,5 @@
 -- The questions that are put to a step, in the order of the numbers of their refusals, and when each is answered by yes.
-use Rattle.std.specs.Prelude.{◌≡◌, ℕ, ◌<◌, ◌≢◌, List, is_some, Some}
+use Rattle.std.specs.Prelude.{◌≡◌, ℕ, ◌<◌, ◌≢◌, List, Some}
 use Rattle.parts.specs.declared.mark.Mark.TheVariants.{Modified}
 use Rattle.memory.specs.Meaning.{MemoryMeaning, size_of}
 use Rattle.protocol.specs.declared.access.Access.{Access}
@@ -13,10 +13,8 @@ use Rattle.protocol.specs.Accesses.{block_of}
 use Rattle.protocol.specs.Calls.{core_of}
 use Rattle.protocol.specs.Refusals.{refusal_number}
 use Rattle.row.specs.Cores.{CoreMeaning, count_of, state_at}
-use Rattle.protocol.specs.Answers.{word_of}
-use Rattle.study.specs.Run.{RunMeaning, most_steps}
-use Rattle.study.specs.Step.{valid, fetchable, owed, step}
-use Rattle.study.specs.Words.{is_accepted}
+use Rattle.study.specs.Run.{RunMeaning}
+use Rattle.study.specs.Step.{valid}
 use Rattle.study.specs.Coherence.{Holds}
 
 -- the memory has the block that the call names, if it names one
@@ -74,12 +72,3 @@ Allowed k r = (e : Refusal) → Yes e k r
 pub record Because (k : Call) (r : RunMeaning) (e : Refusal) : Type 0 where
   pub no : Yes e k r → ⊥
   pub before : (d : Refusal) → refusal_number d < refusal_number e → Yes d k r
-
--- where the run has room for a step, and there is core c, a fetch of it is accepted just where the core can fetch
-abbrev pub FetchDecided : RunMeaning → ℕ → Type 0
-FetchDecided r c = r.tally.steps < most_steps → c < count_of r.cores → is_accepted (word_of (step r (Fetch c)).answer) ≡ is_some (fetchable r c)
-
--- and where there is block n too, a flush of it is accepted just where core c owes it
-abbrev pub FlushDecided : RunMeaning → ℕ → ℕ → Type 0
-FlushDecided r c n = r.tally.steps < most_steps → c < count_of r.cores → n < size_of r.memory
-    → is_accepted (word_of (step r (Flush c n)).answer) ≡ is_some (owed r c n)

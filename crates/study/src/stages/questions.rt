@@ -2,7 +2,7 @@
 ghost use Rattle.std.specs.Prelude.{◌≡◌};
 ghost use Rattle.row.specs.Cores.{state_at};
 ghost use Rattle.study.specs.Step.{fetchable, owed};
-ghost use Rattle.study.specs.Questions.{FetchDecided, FlushDecided};
+ghost use Rattle.study.specs.Foretold.{FetchForetold, FlushForetold};
 ghost use Rattle.study.specs.Stages.{run_of};
 
 use crate::stages::Run;
@@ -24,10 +24,10 @@ impl<R: Row, M: Memory> Run<R, M> {
 
     /// Whether a core can fetch now: the stamp that it would get, which memory has for the block that the core waits for. None if
     /// the core does not wait, or if the block is stale in memory.
-    #[tactic(auto, using(crate::proofs::Deciding::fetch_decided))]
+    #[tactic(auto, using(crate::proofs::Foretelling::fetch_foretold))]
     pub fn fetchable(&self, core: u16) -> Option<u32>
         ensures stamp { result ≡ fetchable (run_of R.cores M.meaning self.now) core }
-        ensures law { FetchDecided (run_of R.cores M.meaning self.now) core }
+        ensures law { FetchForetold (run_of R.cores M.meaning self.now) core }
     {
         match self.state(core) {
             CoreState::Waiting(access) => valid(&self.memory, access.block()),
@@ -38,10 +38,10 @@ impl<R: Row, M: Memory> Run<R, M> {
     /// Whether a core owes a flush of a block now: the stamp that memory would get, that of the modified copy that the core holds.
     /// None if the core does not hold the block modified, or if no other core waits for it.
     #[inline(always)]
-    #[tactic(auto, using(crate::proofs::Deciding::flush_decided))]
+    #[tactic(auto, using(crate::proofs::Foretelling::flush_foretold))]
     pub fn owed(&self, core: u16, block: u16) -> Option<u32>
         ensures stamp { result ≡ owed (run_of R.cores M.meaning self.now) core block }
-        ensures law { FlushDecided (run_of R.cores M.meaning self.now) core block }
+        ensures law { FlushForetold (run_of R.cores M.meaning self.now) core block }
     {
         let stamp = modified_stamp(self.row.look(core, block))?;
         let message = Message {

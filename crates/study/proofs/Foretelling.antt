@@ -13,7 +13,7 @@ use Rattle.row.specs.Cores.{count_of, state_at}
 use Rattle.study.specs.Run.{RunMeaning, most_steps, Outcome}
 use Rattle.study.specs.Step.{valid, provided, fetchable_in, fetch_by, owed, flush_by, act, step}
 use Rattle.study.specs.Words.{is_accepted}
-use Rattle.study.specs.Questions.{FetchDecided, FlushDecided}
+use Rattle.study.specs.Foretold.{FetchForetold, FlushForetold}
 
 abbrev says : Outcome → Bool
 says o = is_accepted (word_of o.answer)
@@ -28,9 +28,9 @@ module _ (r : RunMeaning) (c : ℕ) where
   fetches (Waiting a) = fetched a (valid r.memory (block_of a))
   fetches (Due a) = refl
 
-  pub fetch_decided : FetchDecided r c
+  pub fetch_foretold : FetchForetold r c
   unfolding step
-  fetch_decided room there =
+  fetch_foretold room there =
       ap (λ x. says (provided x TooManySteps r (provided (ltb c (count_of r.cores)) NoSuchCore r (act r (Fetch c) (state_at r.cores c))))) (lt-ltb r.tally.steps most_steps room)
       ∙ ap (λ x. says (provided x NoSuchCore r (act r (Fetch c) (state_at r.cores c)))) (lt-ltb c (count_of r.cores) there)
       ∙ fetches (state_at r.cores c)
@@ -45,9 +45,9 @@ module _ (r : RunMeaning) (c : ℕ) where
     flushes (Waiting a) = flushed (owed r c n)
     flushes (Due a) = flushed (owed r c n)
 
-    pub flush_decided : FlushDecided r c n
+    pub flush_foretold : FlushForetold r c n
     unfolding step
-    flush_decided room there within =
+    flush_foretold room there within =
         ap (λ x. says (provided x TooManySteps r (provided (ltb c (count_of r.cores)) NoSuchCore r
         (provided (ltb n (size_of r.memory)) NoSuchBlock r (act r (Flush c n) (state_at r.cores c)))))) (lt-ltb r.tally.steps most_steps room)
         ∙ ap (λ x. says (provided x NoSuchCore r (provided (ltb n (size_of r.memory)) NoSuchBlock r (act r (Flush c n) (state_at r.cores c))))) (lt-ltb c (count_of r.cores) there)
