@@ -32,7 +32,7 @@ use Rattle.study.proofs.Accesses.{Inv}
 use Rattle.study.proofs.Steps.{step-good}
 use Rattle.study.proofs.Choices.{alike}
 use Rattle.study.proofs.Calling.{still, then_becomes, turns}
-use Rattle.study.proofs.Loans.{played-keeps}
+use Rattle.study.proofs.Loans.{opened-keeps}
 use Rattle.study.proofs.Counting.{prices-kept}
 
 -- a block that no core owns is clean
@@ -218,8 +218,8 @@ module _ (cs : List CoreMeaning) (m : MemoryMeaning) (w : Prices) (few : count_o
   pub tiers-called : (ks : List Call) (c : ℕ) → Becomes (tier_at (opened cs m w).cores c) (tier_at (played (opened cs m w) ks).cores c)
   tiers-called ks c = played-tiers ks (opened cs m w) new_book start c
 
-  pub memory-called : (ks : List Call) → Becomes (opened cs m w).memory (played (opened cs m w) ks).memory
-  memory-called ks = played-keeps (Becomes (opened cs m w).memory) (λ n c h. then_becomes _ n _ h (c ∷ [], refl)) ks (opened cs m w) (still _)
+  pub memory-called : (ks : List Call) → Becomes m (played (opened cs m w) ks).memory
+  memory-called ks = opened-keeps (Becomes m) (λ n c h. then_becomes m n _ h (c ∷ [], refl)) cs m w ks (still m)
 
   pub coherence : (ks : List Call) → Coherent (played (opened cs m w) ks).cores (played (opened cs m w) ks).memory
   coherence ks = coherent _ _ _ (at_end ks).1.sound

@@ -49,9 +49,10 @@ pub record Warranted (cs : List CoreMeaning) (m : MemoryMeaning) (w : Prices) : 
   pub told : (ks : List Call) (k : Call) → Tells (played (opened cs m w) ks) k
   -- what is told of a call leaves no choice
   pub decided : (ks : List Call) (k : Call) → Decided (played (opened cs m w) ks) k
-  -- each core's tier is what calls of a tier have made of the one that was opened, and the memory what calls of a memory have
+  -- each core's tier is what calls of a tier have made of the one that was opened, and the memory what calls of a memory have made
+  -- of the one that it was
   pub tiers : (ks : List Call) (c : ℕ) → Becomes (tier_at (opened cs m w).cores c) (tier_at (played (opened cs m w) ks).cores c)
-  pub memory : (ks : List Call) → Becomes (opened cs m w).memory (played (opened cs m w) ks).memory
+  pub memory : (ks : List Call) → Becomes m (played (opened cs m w) ks).memory
   pub coherent : (ks : List Call) → Coherent (played (opened cs m w) ks).cores (played (opened cs m w) ks).memory
   pub unmet : (ks : List Call) → Unmet (played (opened cs m w) ks)
   pub honest : (ks : List Call) → HonestFrom new_book (history (opened cs m w) ks)
