@@ -1,3 +1,6 @@
 pub mod Nine
 pub mod Examples
 pub mod Premises
+pub mod FreeRunning
+pub mod FreeRunningMeaning
+pub mod FreeRunningLaws

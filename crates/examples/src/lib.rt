@@ -5,6 +5,8 @@ ghost use Rattle.std.specs.Prelude.{◌≡◌};
 ghost use Rattle.examples.specs.Examples.{Examples};
 ghost use Rattle.examples.specs.Premises.{Premises};
 
+pub mod free_running;
+
 // A theorem has to be named by some function's contract, or the check would not ask for its proof.
 /// The examples hold of the definitions; the answer is how many there are.
 pub fn examples_hold() -> u8
