@@ -4,3 +4,4 @@ pub mod Premises
 pub mod FreeRunning
 pub mod FreeRunningMeaning
 pub mod FreeRunningLaws
+pub mod FreeRuns

@@ -3,6 +3,7 @@
 
 ghost use Rattle.std.specs.Prelude.{◌≡◌};
 ghost use Rattle.examples.specs.Examples.{Examples};
+ghost use Rattle.examples.specs.FreeRuns.{FreeRuns};
 ghost use Rattle.examples.specs.Premises.{Premises};
 
 pub mod free_running;
@@ -17,10 +18,12 @@ pub fn examples_hold() -> u8
 }
 
 // As above.
-/// What is shipped meets the premises of what is proved of every study; the answer is how many there are.
+/// What is shipped meets the premises of what is proved of every study; the answer is how many there are. And so does a kind of
+/// tier whose choice of what leaves moves on with every call.
 pub fn premises_met() -> u8
     ensures count { result ≡ 12 }
     ensures met { Premises }
+    ensures any_kind { FreeRuns }
 {
     12
 }

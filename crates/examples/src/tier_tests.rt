@@ -1,4 +1,5 @@
 //! Tiers and piles on examples, and at the limits of their sizes.
+use crate::free_running::FreeRunning;
 use assoc::set_associative::SetAssociative;
 use direct::direct::Direct;
 use parts::line::Line;
@@ -110,6 +111,63 @@ fn pile_sinks_and_gives_out(rt: HostRuntime) -> Result<(), Fail> {
     assert_eq!(rt; first_wrong(&mut pile, &steps), None);
     pile.clear();
     assert_eq!(rt; pile.look(2), None);
+    Ok(())
+}
+
+// The turn to leave passes with every call but look: the first line's after an even number of them, else the second's.
+#[test]
+fn free_running_moves_on(rt: HostRuntime) {
+    let steps = [
+        Step::Put(0, None),
+        Step::Put(1, None),
+        Step::PutRefused(0, 10),
+        Step::Put(2, Some(1)),
+        Step::Take(5, None),
+        Step::Put(3, Some(2)),
+        Step::Touch(7, Err(11)),
+        Step::Look(3, Some((0, 3, 1))),
+        Step::Put(4, Some(3)),
+        Step::Change(7, Err(11)),
+        Step::Change(4, Ok(())),
+        Step::Put(5, Some(0)),
+        Step::Touch(4, Ok(())),
+        Step::Take(5, Some((0, 5, 1))),
+        // a line that was freed serves the next put
+        Step::Put(6, None),
+        Step::Look(4, Some((1, 9, 1))),
+    ];
+    let mut tier = FreeRunning::new();
+    assert_eq!(rt; first_wrong(&mut tier, &steps), None);
+    tier.clear();
+    assert_eq!(rt; tier.look(4), None);
+    // fourteen calls, the clear and two puts: an odd number
+    let steps = [
+        Step::Put(0, None),
+        Step::Put(1, None),
+        Step::Put(2, Some(1)),
+    ];
+    assert_eq!(rt; first_wrong(&mut tier, &steps), None);
+}
+
+// A pile clears its parts, which passes the turn on; it refuses a put without telling its upper tier, and tells both of a take.
+#[test]
+fn free_running_on_direct(rt: HostRuntime) -> Result<(), Fail> {
+    let mut pile = Pile::new(FreeRunning::new(), direct(rt.alloc(), 1)?);
+    let steps = [
+        Step::Put(0, None),
+        Step::Put(1, None),
+        Step::Put(2, None),
+        Step::Look(1, Some((0, 1, 2))),
+        Step::Take(9, None),
+        Step::Put(3, Some(1)),
+        Step::Look(2, Some((0, 2, 2))),
+        Step::PutRefused(3, 10),
+        Step::PutRefused(2, 10),
+        Step::Put(4, Some(2)),
+        Step::Look(0, Some((0, 0, 2))),
+        Step::Look(3, Some((0, 3, 1))),
+    ];
+    assert_eq!(rt; first_wrong(&mut pile, &steps), None);
     Ok(())
 }
 

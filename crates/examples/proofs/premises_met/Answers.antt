@@ -1,7 +1,13 @@
 -- Each premise is a lemma of the crate that it speaks of.
-use Rattle.std.proofs.Common.{◌≡◌, ℕ, ◌≤◌, Bool, cond, eqb, List, [], length, None, Ok, Err, Result, refl, ap, ◌∙◌, arith, le-ltb, ne_eqb}
+use Rattle.std.proofs.Common.{◌≡◌, ◌≢◌, ℕ, ◌≤◌, Bool, cond, eqb, List, [], length, Some, None, Ok, Err, Result, refl, sym, ap, ◌∙◌, arith, le-ltb, ne_eqb}
 use lib.ListN.{length-replicate}
-use Rattle.tier.specs.Meaning.{Lawful as LawfulTier}
+use Rattle.std.proofs.lemmas.Option.{same_Some}
+use Rattle.device.specs.Device.{after, reach}
+use Rattle.parts.specs.declared.mark.Mark.TheVariants.{Shared}
+use Rattle.parts.specs.declared.line.Line.{Line}
+use Rattle.tier.specs.Meaning.{TierMeaning, TierCall, take, line, out_of, Lawful as LawfulTier}
+use Rattle.tier.specs.Options.{never}
+use Rattle.tier.specs.Pile.{pile}
 use Rattle.tier.specs.PileLaws.{pile-lawful}
 use Rattle.direct.specs.Lines.{direct, empty}
 use Rattle.direct.specs.DirectLaws.{direct-lawful, empty-placed}
@@ -23,6 +29,10 @@ use Rattle.study.specs.Opening.{opened, opening}
 use Rattle.protocol.specs.Prices.{Affordable}
 use Rattle.study.proofs.Warranty.{warrant}
 use Rattle.examples.specs.Nine.{weights}
+use Rattle.examples.specs.Examples.{puts}
+use Rattle.examples.specs.FreeRunning.{cleared}
+use Rattle.examples.specs.FreeRunningLaws.{free-lawful}
+use Rattle.examples.specs.FreeRuns.{free, cores_with, full}
 use Rattle.examples.proofs.premises_met.Goals as goal
 
 lines : (l : ℕ) → 1 ≤ l → LawfulTier (direct (empty l))
@@ -63,4 +73,37 @@ returns-clause-met c = record {
   fair = fair;
   opens = opens;
   machine = λ a t. warrant two_cores (flat a t) weights few both (flat-lawful a t) fair;
+}
+
+-- ---- a kind whose choice moves on with every call
+
+moving : LawfulTier free
+moving = free-lawful cleared (λ g h e. never g e)
+
+above : (t : TierMeaning) → LawfulTier t → LawfulTier (pile free t)
+above t h = pile-lawful free t moving h
+
+below : (t : TierMeaning) → LawfulTier t → LawfulTier (pile t free)
+below t h = pile-lawful t free h moving
+
+-- a device that gives out 1 is not one that gives out 0
+moves : (c : TierCall) → out_of (after (reach free full) c) 2 Shared 9 ≡ Some (line 1 Shared 1) → after (reach free full) c ≢ reach free full
+moves c e q =
+    let blocks : Some (line 1 Shared 1) ≡ Some (line 0 Shared 0) = sym e ∙ ap (λ d. out_of d 2 Shared 9) q in
+    let z : ◌≡◌ {A = ℕ} 1 0 = ap (λ (g : Line). g.block) (same_Some (line 1 Shared 1) (line 0 Shared 0) blocks) in
+    absurd (omega arith)
+
+pub returns-clause-any_kind : goal.returns-clause-any_kind
+returns-clause-any_kind c = record {
+  lawful = moving;
+  above = above;
+  below = below;
+  warranted = λ t h a cells. warrant (cores_with t) (flat a cells) weights (omega arith) (above t h, (below t h, tt)) (flat-lawful a cells) fair;
+  gives = refl;
+  refused_held = λ n. refl;
+  refused_gives = refl;
+  missed_held = λ n. refl;
+  missed_gives = refl;
+  refused_moves = moves (puts 0) refl;
+  missed_moves = moves (take 2) refl;
 }
