@@ -14,11 +14,11 @@ use Rattle.scenario.specs.declared.fault.Fault.TheVariants.{Text, Layout}
 use Rattle.scenario.specs.declared.fault.LayoutFault.TheVariants.{BadTable}
 use Rattle.scenario.specs.Changes.{and_then, line_change}
 use Rattle.scenario.specs.Scan.{State, state, start, scan, changed_by}
-use Rattle.scenario.specs.Reading.{read_of, section_of}
+use Rattle.scenario.specs.Reading.{a_read, read_of, section_of}
 use Rattle.scenario.specs.declared.fault.File.TheVariants.{Placement as PlacementFile, Schedule as ScheduleFile}
-use Rattle.scenario.specs.Texts.{unplaced, in_file}
+use Rattle.scenario.specs.Texts.{unplaced, scenario_of, single_of, in_file}
 use Rattle.report.specs.Lines.{row, text_of, written as as_written}
-use Rattle.round_trip.specs.Written.{Placing, Step, Placeable, Steppable, ReadsBack, PairReadsBack, written_placement, written_schedule, weights_fields, placing_fields, step_fields, written, placed, made_by}
+use Rattle.round_trip.specs.Written.{Placing, Step, Writable, Placeable, Steppable, written_placement, written_schedule, weights_fields, placing_fields, step_fields, written, placed, made_by}
 use Rattle.report.proofs.Rows.{Unparted, body, row_line}
 use Rattle.round_trip.proofs.Changes.{weights_line, placing_line, step_line, may_step}
 
@@ -74,7 +74,10 @@ text_read first layout text st short read =
     ap (λ b. and_then (cond b (Err (Text TooLong)) (scan (start first layout) 1 (parts 10 text))) (λ x. Ok (read_of x))) fits
     ∙ ap (λ r. and_then r (λ x. Ok (read_of x))) read
 
-pub reads_back : ReadsBack
+-- a scenario that is written so, and is not too long, is read as what was written
+pub reads_back : (w : Prices) (ps : List Placing) (ss : List Step) (table : List ℕ) → Writable w → Placeable unplaced ps → Steppable (placed unplaced ps) ss
+    → length (written w ps ss) ≤ 65536 → length table ≡ 256
+    → scenario_of table (written w ps ss) ≡ Ok (a_read w (placed unplaced ps) (map (made_by (placed unplaced ps)) ss))
 unfolding text_of
 reads_back w ps ss table hw hp hs short full =
     let l = weights_line unplaced true 1 w hw in
@@ -82,7 +85,10 @@ reads_back w ps ss table hw hp hs short full =
     ap (λ n. cond (n == 256) (section_of Scenario unplaced (written w ps ss)) (Err (Layout BadTable))) full
     ∙ text_read Scenario unplaced (written w ps ss) _ short (row_read (start Scenario unplaced) 1 (map as_written (weights_fields w)) (text_of (map placing_fields ps ++ map step_fields ss)) _ l.0 l.1 ∙ more.1)
 
-pub pair_reads_back : PairReadsBack
+-- and so are a placement and a schedule
+pub pair_reads_back : (w : Prices) (ps : List Placing) (ss : List Step) → Writable w → Placeable unplaced ps → Steppable (placed unplaced ps) ss
+    → length (written_placement ps) ≤ 65536 → length (written_schedule w ss) ≤ 65536
+    → single_of (written_placement ps) (written_schedule w ss) ≡ Ok (a_read w (placed unplaced ps) (map (made_by (placed unplaced ps)) ss))
 unfolding text_of
 pair_reads_back w ps ss hw hp hs short_p short_s =
     let layout = placed unplaced ps in

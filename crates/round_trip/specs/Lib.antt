@@ -1,1 +1,3 @@
 pub mod Written
+pub mod Exactly
+pub mod FirstFault

@@ -1,12 +1,10 @@
--- A scenario, as a buyer writes it down, and what reading it back has to give.
-use Rattle.std.specs.Prelude.{◌≡◌, ℕ, ◌<◌, ◌≤◌, List, [], ◌∷◌, ◌++◌, map, length, get_or, slice_get, slice_set, codes, Some, Ok}
+-- A scenario, as a buyer writes it down.
+use Rattle.std.specs.Prelude.{◌≡◌, ℕ, ◌<◌, List, [], ◌∷◌, ◌++◌, map, get_or, slice_get, slice_set, codes, Some}
 use Rattle.protocol.specs.declared.call.Call.{Call}
 use Rattle.protocol.specs.declared.call.Call.TheVariants as call
 use Rattle.protocol.specs.declared.weights.Prices.{Prices}
 use Rattle.records.specs.declared.keyword.Verb.{Verb}
 use Rattle.records.specs.declared.keyword.Verb.TheVariants.{Read, Write, Commit, Flush, Fetch, Resume}
-use Rattle.scenario.specs.Reading.{a_read}
-use Rattle.scenario.specs.Texts.{unplaced, scenario_of, single_of}
 use Rattle.report.specs.Lines.{Field, Number, Text, text_of}
 
 -- a reference, and the block where it is placed
@@ -82,21 +80,9 @@ abbrev pub Steppable : List ℕ → List Step → Type 0
 Steppable layout [] = Unit {0}
 Steppable layout (s ∷ ss) = (s.core < 65536) × NamesPlaced layout s.verb s.reference × Steppable layout ss
 
--- a scenario that is written so, and is not too long, is read as what was written, into any table of 256 entries
-abbrev pub ReadsBack : Type 0
-ReadsBack = (w : Prices) (ps : List Placing) (ss : List Step) (table : List ℕ) → Writable w → Placeable unplaced ps → Steppable (placed unplaced ps) ss
-    → length (written w ps ss) ≤ 65536 → length table ≡ 256
-    → scenario_of table (written w ps ss) ≡ Ok (a_read w (placed unplaced ps) (map (made_by (placed unplaced ps)) ss))
-
 -- the same in two texts: a placement, and a schedule
 abbrev pub written_placement : List Placing → List ℕ
 written_placement ps = text_of (map placing_fields ps)
 
 abbrev pub written_schedule : Prices → List Step → List ℕ
 written_schedule w ss = text_of (weights_fields w ∷ map step_fields ss)
-
--- a placement and a schedule are read together as the scenario is that has both: the single study of a pair is that scenario's
-abbrev pub PairReadsBack : Type 0
-PairReadsBack = (w : Prices) (ps : List Placing) (ss : List Step) → Writable w → Placeable unplaced ps → Steppable (placed unplaced ps) ss
-    → length (written_placement ps) ≤ 65536 → length (written_schedule w ss) ≤ 65536
-    → single_of (written_placement ps) (written_schedule w ss) ≡ Ok (a_read w (placed unplaced ps) (map (made_by (placed unplaced ps)) ss))

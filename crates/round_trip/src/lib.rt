@@ -1,16 +1,23 @@
-//! What is written as a scenario is read as what was written.
+//! What is written as a scenario, and nothing else, is read, and as what was written; and the first faulty line decides.
 #![tactic(auto)]
 
-ghost use Rattle.std.specs.Prelude.{◌≡◌};
-ghost use Rattle.round_trip.specs.Written.{ReadsBack, PairReadsBack};
+ghost use Rattle.std.specs.Prelude.{◌≡◌, ℕ, List};
+ghost use Rattle.records.specs.declared.keyword.Section.{Section};
+ghost use Rattle.scenario.specs.Reading.{section_of};
+ghost use Rattle.scenario.specs.Texts.{scenario_of};
+ghost use Rattle.round_trip.specs.Exactly.{ReadExactly, PairReadExactly};
+ghost use Rattle.round_trip.specs.FirstFault.{FirstFaultDecides};
 
 // A theorem has to be named by some function's contract, or the check would not ask for its proof.
-/// Every scenario that is written as the format says is read back as it was written, and a placement and a schedule that are
-/// written so are read as the scenario that has both; the answer is how many theorems that is.
+/// A scenario, and a placement with a schedule, are read without a fault exactly if they are written as the format says, and as
+/// what was written; where a scenario, a placement or a schedule has a fault in a line, that line is its first faulty one, and
+/// what follows it makes no difference. The answer is how many theorems that is.
 pub fn scenarios_read_back() -> u8
-    ensures count { result ≡ 2 }
-    ensures whole { ReadsBack }
-    ensures parted { PairReadsBack }
+    ensures count { result ≡ 4 }
+    ensures whole { (table text : List ℕ) → ReadExactly table text }
+    ensures parted { (placement schedule : List ℕ) → PairReadExactly placement schedule }
+    ensures first_fault { (table text : List ℕ) → FirstFaultDecides (scenario_of table) text }
+    ensures first_fault_in { (section : Section) (layout text : List ℕ) → FirstFaultDecides (section_of section layout) text }
 {
-    2
+    4
 }

@@ -1,8 +1,15 @@
-use Rattle.round_trip.proofs.Scans.{reads_back, pair_reads_back}
+use Rattle.round_trip.proofs.Exactly.{read_exactly, pair_read_exactly}
+use Rattle.round_trip.proofs.FirstFaults.{decides, decides_in}
 use Rattle.round_trip.proofs.scenarios_read_back.Goals as goal
 
 pub returns-clause-whole : goal.returns-clause-whole
-returns-clause-whole c = reads_back
+returns-clause-whole c = read_exactly
 
 pub returns-clause-parted : goal.returns-clause-parted
-returns-clause-parted c = pair_reads_back
+returns-clause-parted c = pair_read_exactly
+
+pub returns-clause-first_fault : goal.returns-clause-first_fault
+returns-clause-first_fault c = decides
+
+pub returns-clause-first_fault_in : goal.returns-clause-first_fault_in
+returns-clause-first_fault_in c = decides_in
