@@ -1,5 +1,5 @@
 -- The first faulty line of a text decides.
-use Rattle.std.proofs.Common.{◌≡◌, ℕ, zero, suc, ◌+◌, ◌≤◌, ◌<◌, Bool, true, false, cond, not, ◌==◌, List, [], ◌∷◌, ◌++◌, length, slice_get, nat_lt, Some, None, Ok, Err, Option, Result, IsOk, is_ok, sym, refl, subst, ap, ◌∙◌, arith}
+use Rattle.std.proofs.Common.{◌≡◌, ◌≢◌, ℕ, zero, suc, ◌+◌, ◌≤◌, ◌<◌, Bool, true, false, cond, not, ◌==◌, List, [], ◌∷◌, ◌++◌, length, slice_get, nat_lt, Some, None, Ok, Err, Option, Result, IsOk, is_ok, sym, refl, subst, ap, ◌∙◌, arith}
 use Rattle.std.proofs.lemmas.Bool.{and_parts, not-true}
 use Rattle.std.proofs.lemmas.Bool.Decides.{nat_tests}
 use Rattle.fields.specs.Parts.{parts}
@@ -26,9 +26,9 @@ use Rattle.scenario.specs.Changes.{and_then, as_text, as_layout, at, numbers, nu
 use Rattle.scenario.specs.Layouts.{free, block_at}
 use Rattle.scenario.specs.Scan.{State, start, scan, ended, complete, changed_by, after_weights}
 use Rattle.scenario.specs.Reading.{read_of, section_of}
-use Rattle.scenario.specs.Texts.{unplaced, scenario_of}
+use Rattle.scenario.specs.Texts.{unplaced}
 use Rattle.fields.proofs.Cuts.{some}
-use Rattle.round_trip.specs.FirstFault.{first_lines, line_of, IsFirstFault, FirstFaultDecides}
+use Rattle.round_trip.specs.FirstFault.{first_lines, line_of, IsFirstFault, IsFault, FirstFaultDecides, FirstFaultDecidesIn}
 use Rattle.round_trip.proofs.Meanings.{then_ok, text_ok, no_fault, record_is}
 use Rattle.round_trip.proofs.Cuts.{unparted_at, Cut, cut, uncut, joined}
 
@@ -359,17 +359,16 @@ module _ (s : Section) (layout : List ℕ) where
   still_ok (Ok st) h = refl
   still_ok (Err e) h = h
 
-  -- a fault that names a line is one of a text that is not too long
-  not_long : (bs : List ℕ) (e : Fault) → 1 ≤ line_of e → section_of s layout bs ≡ Err e → (length bs ≤ 65536) × (scan (start s layout) 1 (parts 10 bs) ≡ Err e)
+  short_err : (bs : List ℕ) (e : Fault) → length bs ≤ 65536 → section_of s layout bs ≡ Err e → scan (start s layout) 1 (parts 10 bs) ≡ Err e
+  short_err bs e l h = then_err (scan (start s layout) 1 (parts 10 bs)) (λ st. Ok (read_of st)) e (sym (short_is bs l) ∙ h) (λ bad. bad) (λ st is h'. absurd (cc))
+
+  long_err_is : (bs : List ℕ) (e : Fault) → 65536 < length bs → section_of s layout bs ≡ Err e → e ≡ Text TooLong
   unfolding section_of
-  not_long bs e l h =
-      then_err (cond (nat_lt 65536 (length bs)) (Err (Text TooLong)) (scan (start s layout) 1 (parts 10 bs))) (λ st. Ok (read_of st)) e h
-      (λ bad. elim (nat_lt 65536 (length bs)) as (λ b. b ≡ nat_lt 65536 (length bs) → cond b (Err (Text TooLong)) (scan (start s layout) 1 (parts 10 bs)) ≡ Err e
-      → (length bs ≤ 65536) × (scan (start s layout) 1 (parts 10 bs) ≡ Err e)) [
-        | true ↦ λ b h'. let is : Text TooLong ≡ e = cc in absurd (omega (arith, ap line_of is, l))
-        | false ↦ λ b h'. (grind (arith, nat_tests), h')
-      ] refl bad)
-      (λ st is h'. absurd (cc))
+  long_err_is bs e l h =
+      let long : nat_lt 65536 (length bs) ≡ true = grind (arith, nat_tests) in
+      let is = ap (λ b. and_then (cond b (Err (Text TooLong)) (scan (start s layout) 1 (parts 10 bs))) (λ st. Ok (read_of st))) long in
+      let same : Err e ≡ Err (Text TooLong) = sym h ∙ is in
+      cc
 
   before_in : (text : List ℕ) (e : Fault) → length text ≤ 65536 → (f : HasFault (start s layout) 1 text e) → line_of e ≡ suc f.past → (n : ℕ) → 1 ≤ n → n < line_of e → IsOk (section_of s layout (first_lines n text))
   before_in text e short f at zero some l = absurd (omega arith)
@@ -377,22 +376,26 @@ module _ (s : Section) (layout : List ℕ) where
       ap is_ok (short_is (first_lines (suc n) text) (omega (arith, length-first_lines (suc n) text, short)))
       ∙ still_ok (scan (start s layout) 1 (parts 10 (first_lines (suc n) text))) (f.before n (omega (arith, l, at)))
 
-  pub decides_in : (text : List ℕ) → FirstFaultDecides (section_of s layout) text
-  decides_in text e h l =
-      let short = not_long text e l h in
-      let f = has_fault (parts 10 text) (start s layout) 1 text e refl short.1 in
+  lines_in : (text : List ℕ) (e : Fault) → section_of s layout text ≡ Err e → length text ≤ 65536 → IsFirstFault (section_of s layout) text e
+  lines_in text e h l =
+      let f = has_fault (parts 10 text) (start s layout) 1 text e refl (short_err text e l h) in
       let at : line_of e ≡ suc f.past = f.told ∙ omega arith in record {
-        before = before_in text e short.0 f at;
+        named = omega (arith, at);
+        before = before_in text e l f at;
         after = λ other len same.
             short_is other len
             ∙ ap (λ r. and_then r (λ st. Ok (read_of st))) (f.after other (ap (λ n. first_lines n other) (sym at) ∙ same ∙ ap (λ n. first_lines n text) at));
       }
 
--- a scenario is read so into a table of 256 entries
-into_table : (t : Bool) (table text : List ℕ) → t ≡ (length table == 256) → (e : Fault) → cond t (section_of Scenario unplaced text) (Err (Layout BadTable)) ≡ Err e → 1 ≤ line_of e
-    → IsFirstFault (λ x. cond t (section_of Scenario unplaced x) (Err (Layout BadTable))) text e
-into_table true table text is e h l = decides_in Scenario unplaced text e h l
-into_table false table text is e h l = let bad : Layout BadTable ≡ e = cc in absurd (omega (arith, ap line_of bad, l))
+  pub decides_in : (text : List ℕ) → FirstFaultDecidesIn s layout text
+  decides_in text e h = record { long = λ l. long_err_is text e l h; lines = lines_in text e h }
 
-pub decides : (table text : List ℕ) → FirstFaultDecides (scenario_of table) text
-decides table text e h l = into_table (length table == 256) table text refl e h l
+-- a scenario is read so into a table of 256 entries
+module _ (table text : List ℕ) (e : Fault) where
+  into_table : (t : Bool) → t ≡ (length table == 256) → cond t (section_of Scenario unplaced text) (Err (Layout BadTable)) ≡ Err e
+      → (length table ≢ 256 → e ≡ Layout BadTable) × (length table ≡ 256 → IsFault (λ x. cond t (section_of Scenario unplaced x) (Err (Layout BadTable))) text e)
+  into_table true is h = (λ other. absurd (other (grind (arith, nat_tests))), λ full. decides_in Scenario unplaced text e h)
+  into_table false is h = (λ other. cc, λ full. absurd (grind (arith, nat_tests)))
+
+pub decides : (table text : List ℕ) → FirstFaultDecides table text
+decides table text e h = let t = into_table table text e (length table == 256) refl h in record { bad_table = t.0; of_text = t.1 }

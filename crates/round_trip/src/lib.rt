@@ -3,10 +3,8 @@
 
 ghost use Rattle.std.specs.Prelude.{◌≡◌, ℕ, List};
 ghost use Rattle.records.specs.declared.keyword.Section.{Section};
-ghost use Rattle.scenario.specs.Reading.{section_of};
-ghost use Rattle.scenario.specs.Texts.{scenario_of};
 ghost use Rattle.round_trip.specs.Exactly.{ReadExactly, PairReadExactly};
-ghost use Rattle.round_trip.specs.FirstFault.{FirstFaultDecides};
+ghost use Rattle.round_trip.specs.FirstFault.{FirstFaultDecides, FirstFaultDecidesIn};
 
 // A theorem has to be named by some function's contract, or the check would not ask for its proof.
 /// A scenario, and a placement with a schedule, are read without a fault exactly if they are written as the format says, and as
@@ -16,8 +14,8 @@ pub fn scenarios_read_back() -> u8
     ensures count { result ≡ 4 }
     ensures whole { (table text : List ℕ) → ReadExactly table text }
     ensures parted { (placement schedule : List ℕ) → PairReadExactly placement schedule }
-    ensures first_fault { (table text : List ℕ) → FirstFaultDecides (scenario_of table) text }
-    ensures first_fault_in { (section : Section) (layout text : List ℕ) → FirstFaultDecides (section_of section layout) text }
+    ensures first_fault { (table text : List ℕ) → FirstFaultDecides table text }
+    ensures first_fault_in { (section : Section) (layout text : List ℕ) → FirstFaultDecidesIn section layout text }
 {
     4
 }
