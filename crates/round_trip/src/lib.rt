@@ -1,4 +1,4 @@
-//! What is written as a scenario, and nothing else, is read, and as what was written; and the first faulty line decides.
+//! What is written as a scenario is read as what was written, and nothing else is read; and the first faulty line decides.
 #![tactic(auto)]
 
 ghost use Rattle.std.specs.Prelude.{◌≡◌, ℕ, List};
@@ -8,8 +8,9 @@ ghost use Rattle.round_trip.specs.FirstFault.{FirstFaultDecides, FirstFaultDecid
 
 // A theorem has to be named by some function's contract, or the check would not ask for its proof.
 /// A scenario, and a placement with a schedule, are read without a fault exactly if they are written as the format says, and as
-/// what was written; where a scenario, a placement or a schedule has a fault in a line, that line is its first faulty one, and
-/// what follows it makes no difference. The answer is how many theorems that is.
+/// what was written. The fault of a scenario, of a placement or of a schedule is that of its first faulty line, and what follows
+/// that line makes no difference; only the table (14) and the length of the text (15) are asked before. The answer is how many
+/// theorems that is.
 pub fn scenarios_read_back() -> u8
     ensures count { result ≡ 4 }
     ensures whole { (table text : List ℕ) → ReadExactly table text }
