@@ -252,13 +252,15 @@ into_table true table text r is e = (grind (arith, nat_tests), e)
 into_table false table text r is e = absurd (cc)
 
 pub read_exactly : (table text : List ℕ) → ReadExactly table text
-read_exactly table text r = (
-  λ e. let t = into_table _ table text r refl e in (t.0, scenario_written text r t.1),
-  λ h.
-      let x = h.1 in
-      ap (scenario_of table) x.spelt.0
-      ∙ reads_back x.weights x.placings x.steps table x.writable x.placeable x.steppable (omega (arith, x.spelt.1, ap length x.spelt.0)) h.0 ∙ ap Ok (sym x.read),
-)
+read_exactly table text = record {
+  exactly = λ r. (
+    λ e. let t = into_table _ table text r refl e in (t.0, scenario_written text r t.1),
+    λ h.
+        let x = h.1 in
+        ap (scenario_of table) x.spelt.0
+        ∙ reads_back x.weights x.placings x.steps table x.writable x.placeable x.steppable (omega (arith, x.spelt.1, ap length x.spelt.0)) h.0 ∙ ap Ok (sym x.read),
+  );
+}
 
 -- ---- in two texts
 
@@ -300,11 +302,13 @@ pair_written placement schedule r e =
     )
 
 pub pair_read_exactly : (placement schedule : List ℕ) → PairReadExactly placement schedule
-pair_read_exactly placement schedule r = (
-  pair_written placement schedule r,
-  λ x.
-      let p = x.spelt.0 in
-      let s = x.spelt.1 in
-      (λ i. single_of (p.0 i) (s.0 i))
-      ∙ pair_reads_back x.weights x.placings x.steps x.writable x.placeable x.steppable (omega (arith, p.1, ap length p.0)) (omega (arith, s.1, ap length s.0)) ∙ ap Ok (sym x.read),
-)
+pair_read_exactly placement schedule = record {
+  exactly = λ r. (
+    pair_written placement schedule r,
+    λ x.
+        let p = x.spelt.0 in
+        let s = x.spelt.1 in
+        (λ i. single_of (p.0 i) (s.0 i))
+        ∙ pair_reads_back x.weights x.placings x.steps x.writable x.placeable x.steppable (omega (arith, p.1, ap length p.0)) (omega (arith, s.1, ap length s.0)) ∙ ap Ok (sym x.read),
+  );
+}

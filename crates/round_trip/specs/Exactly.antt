@@ -21,10 +21,9 @@ abbrev pub Spells : List ℕ → List ℕ → Type 0
 Spells text bytes = (text ≡ bytes) × (length text ≤ 65536)
 
 -- a scenario is read, and r is what is read, exactly if the table has 256 entries and r is written in the text as the format says
-abbrev pub ReadExactly : List ℕ → List ℕ → Type 0
-ReadExactly table text = (r : Read) → (scenario_of table text ≡ Ok r) ↔ ((length table ≡ 256) × IsWritten (λ w ps ss. Spells text (written w ps ss)) r)
+pub record ReadExactly (table text : List ℕ) : Type 0 where
+  pub exactly : (r : Read) → (scenario_of table text ≡ Ok r) ↔ ((length table ≡ 256) × IsWritten (λ w ps ss. Spells text (written w ps ss)) r)
 
 -- so with a placement and a schedule, in which the weights, placings and steps of one scenario are written
-abbrev pub PairReadExactly : List ℕ → List ℕ → Type 0
-PairReadExactly placement schedule = (r : Read) → (single_of placement schedule ≡ Ok r)
-    ↔ IsWritten (λ w ps ss. Spells placement (written_placement ps) × Spells schedule (written_schedule w ss)) r
+pub record PairReadExactly (placement schedule : List ℕ) : Type 0 where
+  pub exactly : (r : Read) → (single_of placement schedule ≡ Ok r) ↔ IsWritten (λ w ps ss. Spells placement (written_placement ps) × Spells schedule (written_schedule w ss)) r
