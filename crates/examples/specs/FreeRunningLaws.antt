@@ -18,14 +18,14 @@ use Rattle.examples.specs.FreeRunningMeaning.{free_of, lines_of}
 
 -- ---- what a line shows
 
-shows_own : (g : Line) (n : ℕ) → g.block ≡ n → shows (Some g) n ≡ Some (shown_of g)
+pub shows_own : (g : Line) (n : ℕ) → g.block ≡ n → shows (Some g) n ≡ Some (shown_of g)
 shows_own g n e = ap (λ b. cond b (Some (shown_of g)) None) (eq-eqb g.block n e)
 
 shows_other : (g : Line) (n : ℕ) → (g.block ≢ n) → shows (Some g) n ≡ None
 shows_other g n e = ap (λ b. cond b (Some (shown_of g)) None) (ne_eqb g.block n e)
 
 -- a line that shows block n has it
-has : (o : Option Line) (n : ℕ) (h : Holding) → shows o n ≡ Some h → (g : Line) × (o ≡ Some g) × (g.block ≡ n) × (shown_of g ≡ h)
+pub has : (o : Option Line) (n : ℕ) (h : Holding) → shows o n ≡ Some h → (g : Line) × (o ≡ Some g) × (g.block ≡ n) × (shown_of g ≡ h)
 has None n h e = never h e
 has (Some g) n h e = elim (ℕ_discrete g.block n) [
   | yes q ↦ (g, refl, q, same_Some (shown_of g) h (sym (shows_own g n q) ∙ e))
@@ -53,7 +53,7 @@ instead-rest o n b x ne q = go (shows o n) refl
     go (Some h) e = let r = has o n h e in q ∙ sym (ap (λ p. shows p b) r.1 ∙ shows_other r.0 b (λ z. ne (sym z ∙ r.2)))
 
 -- it has the same block
-instead-block : (o : Option Line) (n : ℕ) (x : Option Line) (g : Line) → ((y : Line) → x ≡ Some y → y.block ≡ n) → instead o n x ≡ Some g
+pub instead-block : (o : Option Line) (n : ℕ) (x : Option Line) (g : Line) → ((y : Line) → x ≡ Some y → y.block ≡ n) → instead o n x ≡ Some g
     → (g' : Line) × (o ≡ Some g') × (g'.block ≡ g.block)
 instead-block o n x g hx e = go (shows o n) refl e
   where
@@ -61,7 +61,7 @@ instead-block o n x g hx e = go (shows o n) refl e
     go None q e = (g, e, refl)
     go (Some h) q e = let r = has o n h q in (r.0, r.1, r.2 ∙ sym (hx g e))
 
-line-block : (n : ℕ) (k : Mark) (s : ℕ) (y : Line) → Some (line n k s) ≡ Some y → y.block ≡ n
+pub line-block : (n : ℕ) (k : Mark) (s : ℕ) (y : Line) → Some (line n k s) ≡ Some y → y.block ≡ n
 line-block n k s y e = ap (λ (g : Line). g.block) (sym (same_Some (line n k s) y e))
 
 -- ---- no block stands in both lines
@@ -101,7 +101,7 @@ either x y x' y' p q = ap (λ z. option_or z y) p ∙ ap (option_or x') q
 shown_low : (o : Option Line) (n : ℕ) (h : Holding) → shows o n ≡ Some h → (h.0 ≤ 1) × (h.2 ≡ 1)
 shown_low o n h e = let r = has o n h e in (subst (λ (x : Holding). x.0 ≤ 1) r.3 (mark_low r.0.mark), sym (ap (λ (x : Holding). x.2) r.3))
 
-abbrev Sound : TwoLines → Type 0
+abbrev pub Sound : TwoLines → Type 0
 Sound l = Apart l.first l.second
 
 module _ (l : TwoLines) (ok : Sound l) where

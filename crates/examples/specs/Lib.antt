@@ -3,5 +3,6 @@ pub mod Examples
 pub mod Premises
 pub mod FreeRunning
 pub mod FreeRunningMeaning
+pub mod MovesOn
 pub mod FreeRunningLaws
 pub mod FreeRuns

@@ -1,5 +1,7 @@
 //! A kind of tier whose choice of what leaves moves on with every call.
-ghost use Rattle.std.specs.Prelude.{◌≡◌, not};
+ghost use Rattle.std.specs.Prelude.{◌≡◌};
+ghost use Rattle.device.specs.Device.{Always};
+ghost use Rattle.examples.specs.MovesOn.{MovesOn};
 ghost use Rattle.examples.specs.FreeRunning.{Apart, shows, instead, look, takes_second, moved_on, free_running, cleared};
 ghost use Rattle.tier.specs.Meaning.{held_answer};
 
@@ -41,6 +43,14 @@ impl FreeRunning {
 
     /// Two free lines.
     pub fn new() -> FreeRunning
+        ensures made { free_of result ≡ free_running cleared }
+        ensures law { Always MovesOn (free_of result) }
+    {
+        FreeRunning::idle()
+    }
+
+    // The code apart from the law of whole runs, so that an edit of it is refused for its own sake.
+    fn idle() -> FreeRunning
         ensures { free_of result ≡ free_running cleared }
     {
         FreeRunning {
