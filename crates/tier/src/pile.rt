@@ -56,8 +56,8 @@ fn free<L: Tier>(lower: &mut L, block: u16)
     }
 }
 
-// Takes the block out of the tier, if it is there too, and puts the line into it. A put that the tier refused first, or a take in
-// vain, could alter what the tier gives out later: so it is asked before.
+// Takes the block out of the tier, if it is there too, and puts the line into it. The tier is asked first, since a take in vain
+// could alter what it gives out later, and so could a put that it refused.
 fn sink_into<L: Tier>(lower: &mut L, line: Line) -> Option<Line>
     ensures answer { result ≡ sunk (L.Tier.meaning lower.old) (Some line) }
     ensures next { L.Tier.meaning lower.new ≡ sink (L.Tier.meaning lower.old) (Some line) }
