@@ -1,5 +1,5 @@
 -- A text that is read is written as the format says.
-use Rattle.std.proofs.Common.{◌≡◌, ℕ, ◌+◌, ◌≤◌, Bool, true, false, cond, ◌==◌, List, [], ◌∷◌, ◌++◌, map, length, slice_set, nat_lt, Ok, Err, Result, sym, refl, ap, ◌∙◌, arith, append_assoc, append-nil}
+use Rattle.std.proofs.Common.{◌≡◌, ℕ, ◌+◌, ◌≤◌, Bool, true, false, cond, ◌==◌, List, [], ◌∷◌, ◌++◌, map, length, slice_set, nat_lt, Ok, Err, sym, refl, ap, ◌∙◌, arith, append_assoc, append-nil}
 use Rattle.std.proofs.lemmas.Bool.Decides.{nat_tests}
 use Rattle.std.proofs.lemmas.Option.{slice_get_within}
 use Rattle.std.proofs.lemmas.List.{length-set, length-replicate}
@@ -17,13 +17,11 @@ use Rattle.records.specs.declared.fault.TextFault.TheVariants.{TooLong}
 use Rattle.records.specs.Keywords.{allows}
 use Rattle.scenario.specs.declared.change.Change.{Change}
 use Rattle.scenario.specs.declared.change.Change.TheVariants.{Weigh, Lay, Make}
-use Rattle.scenario.specs.declared.fault.Fault.{Fault}
 use Rattle.scenario.specs.declared.fault.Fault.TheVariants.{Text, Layout}
 use Rattle.scenario.specs.declared.fault.LayoutFault.TheVariants.{BadTable}
 use Rattle.scenario.specs.Changes.{line_change}
 use Rattle.scenario.specs.Scan.{State, state, start, scan, ended, complete, changed_by, after_weights}
 use Rattle.scenario.specs.Reading.{Read, a_read, read_of, section_of}
-use Rattle.scenario.specs.declared.fault.File.{File}
 use Rattle.scenario.specs.declared.fault.File.TheVariants.{Placement as PlacementFile, Schedule as ScheduleFile}
 use Rattle.scenario.specs.Texts.{unplaced, scenario_of, single_of, in_file}
 use Rattle.report.specs.Lines.{Field, row, text_of, written as as_written}
@@ -31,7 +29,7 @@ use Rattle.report.proofs.Rows.{body}
 use Rattle.round_trip.specs.Written.{Placing, Step, Writable, Placeable, Steppable, weights_fields, placing_fields, step_fields, step_fields_of, written, written_placement, written_schedule, placed, made_by}
 use Rattle.round_trip.specs.Exactly.{IsWritten, Spells, ReadExactly, PairReadExactly}
 use Rattle.round_trip.proofs.Cuts.{Cut, cut, uncut}
-use Rattle.round_trip.proofs.Meanings.{then_ok, no_fault, IsStep, IsLine, line_is}
+use Rattle.round_trip.proofs.Meanings.{then_ok, file_ok, no_fault, IsStep, IsLine, line_is}
 use Rattle.round_trip.proofs.Scans.{reads_back, pair_reads_back}
 
 -- ---- lines
@@ -263,10 +261,6 @@ read_exactly table text = record {
 }
 
 -- ---- in two texts
-
-file_ok : (f : File) (r : Result Read Fault) (x : Read) → in_file f r ≡ Ok x → r ≡ Ok x
-file_ok f (Ok y) x e = cc
-file_ok f (Err e') x e = absurd (cc)
 
 in_two_texts : (placement schedule : List ℕ) (r : Read) (ps : List Placing) (st : State) (a : AreWeighed Schedule (placed unplaced ps) schedule st)
     → Placeable unplaced ps → Spells placement (written_placement ps) → length schedule ≤ 65536 → AreSteps a.weights (placed unplaced ps) [] a.rest st → read_of st ≡ r

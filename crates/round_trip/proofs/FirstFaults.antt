@@ -25,11 +25,15 @@ use Rattle.scenario.specs.declared.fault.LayoutFault.TheVariants.{BadTable, Take
 use Rattle.scenario.specs.Changes.{and_then, as_text, as_layout, at, numbers, numbers_of, weighed, weights_of, target, changed, change_of, line_change}
 use Rattle.scenario.specs.Layouts.{free, block_at}
 use Rattle.scenario.specs.Scan.{State, start, scan, ended, complete, changed_by, after_weights}
-use Rattle.scenario.specs.Reading.{read_of, section_of}
-use Rattle.scenario.specs.Texts.{unplaced}
+use Rattle.scenario.specs.Reading.{Read, read_of, section_of}
+use Rattle.scenario.specs.declared.fault.File.{File}
+use Rattle.scenario.specs.declared.fault.File.TheVariants.{Placement as PlacementFile, Schedule as ScheduleFile}
+use Rattle.scenario.specs.declared.fault.FileFault.{FileFault}
+use Rattle.scenario.specs.Texts.{unplaced, in_file}
 use Rattle.fields.proofs.Cuts.{some}
-use Rattle.round_trip.specs.FirstFault.{first_lines, line_of, IsFirstFault, IsFault, FirstFaultDecides, FirstFaultDecidesIn}
-use Rattle.round_trip.proofs.Meanings.{then_ok, text_ok, no_fault, record_is}
+use Rattle.round_trip.specs.FirstFault.{first_lines, line_of, IsFirstFault, IsFault, IsPairFault, FirstFaultDecides, PairFirstFaultDecides}
+use Rattle.round_trip.proofs.Meanings.{then_ok, text_ok, file_ok, no_fault, record_is}
+use Rattle.round_trip.proofs.Scans.{scan_on}
 use Rattle.round_trip.proofs.Cuts.{unparted_at, Cut, cut, uncut, joined}
 
 -- ---- first lines
@@ -289,12 +293,6 @@ module _ (now : State) (line : ℕ) (bs p : List ℕ) (one : parts 10 bs ≡ p �
         after = λ other same. ap (λ x. scan now line (parts 10 x)) (same_end 0 bs other u.1 (same ∙ first_all 0 bs u.1)) ∙ ap (scan now line) one ∙ h;
       }
 
--- what another line changes, and then the next
-scan_on : (st : State) (line : ℕ) (p : List ℕ) (ps : List (List ℕ)) → 1 ≤ length ps → scan st line (p ∷ ps) ≡ and_then (line_change st.layout st.section line p) (λ c. scan (changed_by st c) (line + 1) ps)
-unfolding scan
-scan_on st line p [] h = absurd (omega arith)
-scan_on st line p (q ∷ ps) h = refl
-
 empty_ok : (st : State) (line : ℕ) → MayEnd st.section → IsOk (scan st line (parts 10 []))
 unfolding scan parts
 empty_ok st line h = ap (λ r. is_ok (and_then {E = Fault} r (λ _. Ok st))) (h line)
@@ -387,7 +385,7 @@ module _ (s : Section) (layout : List ℕ) where
             ∙ ap (λ r. and_then r (λ st. Ok (read_of st))) (f.after other (ap (λ n. first_lines n other) (sym at) ∙ same ∙ ap (λ n. first_lines n text) at));
       }
 
-  pub decides_in : (text : List ℕ) → FirstFaultDecidesIn s layout text
+  decides_in : (text : List ℕ) (e : Fault) → section_of s layout text ≡ Err e → IsFault (section_of s layout) text e
   decides_in text e h = record { long = λ l. long_err_is text e l h; lines = lines_in text e h }
 
 -- a scenario is read so into a table of 256 entries
@@ -399,3 +397,17 @@ module _ (table text : List ℕ) (e : Fault) where
 
 pub decides : (table text : List ℕ) → FirstFaultDecides table text
 decides table text e h = let t = into_table table text e (length table == 256) refl h in record { bad_table = t.0; of_text = t.1 }
+
+-- ---- in two texts
+
+file_err : {P : Type 0} (f : File) (r : Result Read Fault) (e : FileFault) → in_file f r ≡ Err e → ((x : Fault) → r ≡ Err x → record { file = f; fault = x } ≡ e → P) → P
+file_err f (Ok x) e h bad = absurd (cc)
+file_err f (Err x) e h bad = bad x refl (cc)
+
+pub pair_decides : (placement schedule : List ℕ) → PairFirstFaultDecides placement schedule
+pair_decides placement schedule e h =
+    then_err (in_file PlacementFile (section_of Placement unplaced placement)) (λ r. in_file ScheduleFile (section_of Schedule r.layout schedule)) e h
+    (λ bad. file_err PlacementFile (section_of Placement unplaced placement) e bad (λ x is same.
+    subst (λ (y : FileFault). IsPairFault placement schedule y.file y.fault) same (decides_in Placement unplaced placement x is)))
+    (λ r good h'. file_err ScheduleFile (section_of Schedule r.layout schedule) e h' (λ x is same.
+    subst (λ (y : FileFault). IsPairFault placement schedule y.file y.fault) same (r, file_ok PlacementFile _ r good, decides_in Schedule r.layout schedule x is)))

@@ -24,9 +24,13 @@ use Rattle.records.specs.Keywords.{keyword_of, allows}
 use Rattle.records.specs.Lines.{Located, numbered, numbers_after, places, or_miscounted, worded, record_of, line_of}
 use Rattle.scenario.specs.declared.change.Change.{Change}
 use Rattle.scenario.specs.declared.change.Change.TheVariants.{Weigh, Lay, Make}
+use Rattle.scenario.specs.declared.fault.Fault.{Fault}
 use Rattle.scenario.specs.declared.fault.LayoutFault.{LayoutFault}
 use Rattle.scenario.specs.Changes.{and_then, as_text, as_layout, at, place_at, numbers, numbers_of, weighed, weights_of, target, changed, change_of, line_change}
 use Rattle.scenario.specs.Layouts.{free, block_at}
+use Rattle.scenario.specs.Reading.{Read as ReadText}
+use Rattle.scenario.specs.declared.fault.File.{File}
+use Rattle.scenario.specs.Texts.{in_file}
 use Rattle.report.specs.Lines.{written as as_written}
 use Rattle.report.proofs.Rows.{body}
 use Rattle.round_trip.specs.Written.{Step, Writable, weights_fields, placing_fields, step_fields, step_fields_of, call_of, made_by, NamesPlaced}
@@ -44,6 +48,10 @@ text_ok (Err e') y e = absurd (cc)
 layout_ok : {A : Type 0} (r : Result A LayoutFault) (y : A) → as_layout r ≡ Ok y → r ≡ Ok y
 layout_ok (Ok x) y e = cc
 layout_ok (Err e') y e = absurd (cc)
+
+pub file_ok : (f : File) (r : Result ReadText Fault) (x : ReadText) → in_file f r ≡ Ok x → r ≡ Ok x
+file_ok f (Ok y) x e = cc
+file_ok f (Err e') x e = absurd (cc)
 
 -- no fault where a test asks for one
 pub no_fault : {A E : Type 0} (t : Bool) (r : Result A E) (x : E) (y : A) → cond t (Err x) r ≡ Ok y → (t ≡ false) × (r ≡ Ok y)

@@ -22,7 +22,8 @@ use Rattle.round_trip.specs.Written.{Placing, Step, Writable, Placeable, Steppab
 use Rattle.report.proofs.Rows.{Unparted, body, row_line}
 use Rattle.round_trip.proofs.Changes.{weights_line, placing_line, step_line, may_step}
 
-scan_on : (st : State) (line : ℕ) (p : List ℕ) (ps : List (List ℕ)) → 1 ≤ length ps → scan st line (p ∷ ps) ≡ and_then (line_change st.layout st.section line p) (λ c. scan (changed_by st c) (line + 1) ps)
+-- what a line that is not the last changes, and then the next
+pub scan_on : (st : State) (line : ℕ) (p : List ℕ) (ps : List (List ℕ)) → 1 ≤ length ps → scan st line (p ∷ ps) ≡ and_then (line_change st.layout st.section line p) (λ c. scan (changed_by st c) (line + 1) ps)
 unfolding scan
 scan_on st line p [] h = absurd (omega arith)
 scan_on st line p (q ∷ ps) h = refl

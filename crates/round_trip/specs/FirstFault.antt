@@ -1,13 +1,16 @@
 -- The first faulty line of a text decides.
-use Rattle.std.specs.Prelude.{◌≡◌, ◌≢◌, ℕ, zero, suc, ◌<◌, ◌≤◌, cond, ◌==◌, List, [], ◌∷◌, length, Err, Result, IsOk}
+use Rattle.std.specs.Prelude.{◌≡◌, ◌≢◌, ℕ, zero, suc, ◌<◌, ◌≤◌, cond, ◌==◌, List, [], ◌∷◌, length, Ok, Err, Result, IsOk}
 use Rattle.records.specs.declared.fault.TextFault.TheVariants.{TooLong}
-use Rattle.records.specs.declared.keyword.Section.{Section}
+use Rattle.records.specs.declared.keyword.Section.TheVariants.{Placement, Schedule}
 use Rattle.scenario.specs.declared.fault.Fault.{Fault}
 use Rattle.scenario.specs.declared.fault.Fault.TheVariants.{Text, Layout}
 use Rattle.scenario.specs.declared.fault.LayoutFault.TheVariants.{BadTable}
+use Rattle.scenario.specs.declared.fault.File.{File}
+use Rattle.scenario.specs.declared.fault.File.TheVariants.{Placement as PlacementFile, Schedule as ScheduleFile}
+use Rattle.scenario.specs.declared.fault.FileFault.{FileFault}
 use Rattle.scenario.specs.Faults.{told_of}
 use Rattle.scenario.specs.Reading.{Read, section_of}
-use Rattle.scenario.specs.Texts.{scenario_of}
+use Rattle.scenario.specs.Texts.{unplaced, scenario_of, single_of}
 
 -- the first n lines of a text, each with its line feed (10); of a text with fewer line feeds, all of it
 unfoldable pub first_lines : ℕ → List ℕ → List ℕ
@@ -39,6 +42,10 @@ pub record IsScenarioFault (table text : List ℕ) (e : Fault) : Type 0 where
 abbrev pub FirstFaultDecides : List ℕ → List ℕ → Type 0
 FirstFaultDecides table text = (e : Fault) → scenario_of table text ≡ Err e → IsScenarioFault table text e
 
--- of a text that begins in this section, as a placement and a schedule do
-abbrev pub FirstFaultDecidesIn : Section → List ℕ → List ℕ → Type 0
-FirstFaultDecidesIn s layout text = (e : Fault) → section_of s layout text ≡ Err e → IsFault (section_of s layout) text e
+-- of a placement and a schedule: the fault of the placement, or else, under its layout, that of the schedule
+abbrev pub IsPairFault : List ℕ → List ℕ → File → Fault → Type 0
+IsPairFault placement schedule PlacementFile e = IsFault (section_of Placement unplaced) placement e
+IsPairFault placement schedule ScheduleFile e = (r : Read) × (section_of Placement unplaced placement ≡ Ok r) × IsFault (section_of Schedule r.layout) schedule e
+
+abbrev pub PairFirstFaultDecides : List ℕ → List ℕ → Type 0
+PairFirstFaultDecides placement schedule = (e : FileFault) → single_of placement schedule ≡ Err e → IsPairFault placement schedule e.file e.fault

@@ -1,5 +1,5 @@
 use Rattle.round_trip.proofs.Exactly.{read_exactly, pair_read_exactly}
-use Rattle.round_trip.proofs.FirstFaults.{decides, decides_in}
+use Rattle.round_trip.proofs.FirstFaults.{decides, pair_decides}
 use Rattle.round_trip.proofs.scenarios_read_back.Goals as goal
 
 pub returns-clause-whole : goal.returns-clause-whole
@@ -11,5 +11,5 @@ returns-clause-parted c = pair_read_exactly
 pub returns-clause-first_fault : goal.returns-clause-first_fault
 returns-clause-first_fault c = decides
 
-pub returns-clause-first_fault_in : goal.returns-clause-first_fault_in
-returns-clause-first_fault_in c = decides_in
+pub returns-clause-first_fault_in_pair : goal.returns-clause-first_fault_in_pair
+returns-clause-first_fault_in_pair c = pair_decides
