@@ -1,4 +1,4 @@
--- Worked examples: of each kind of tier, of a pile and a window, of the figure, and of a scenario of nine steps with its report.
+-- Worked examples: of each kind of tier, of a pile and a window, of the figure, and of two scenarios with their reports.
 use Rattle.std.specs.Prelude.{◌≡◌, ℕ, false, List, [], ◌∷◌, length, Some, None, Ok, Option}
 use Rattle.device.specs.Device.{reach}
 use Rattle.parts.specs.declared.mark.Mark.TheVariants.{Shared}
@@ -21,6 +21,7 @@ use Rattle.scenario.specs.Texts.{scenario_of}
 use Rattle.report.specs.Lines.{text_of}
 use Rattle.simulator.specs.Report.{in_full, report_lines}
 use Rattle.examples.specs.Nine.{weights, blocks, begun, nine, scenario_text, report_text, layout, over, table_after}
+use Rattle.examples.specs.Leaving.{cores, dear, first_run, leaving, leaving_text, leaving_report_text, leaving_layout, last_run, leaving_table}
 
 -- what a put of block n gives out, once the calls were made
 abbrev pub gives_out : TierMeaning → List TierCall → ℕ → Option Line
@@ -65,3 +66,11 @@ pub record Examples : Type 0 where
   -- from the bytes of the scenario to those of its report
   pub nine_report : (a : ℕ) (t : List ℕ) → length t ≡ 256
       → text_of (report_lines in_full (scenario_of t scenario_text) two_cores (blocks a)) ≡ report_text
+  -- so a scenario in which a hit at level 2 pushes a modified line out: 22 accepted steps, 4 writes, 7 accesses, total 916
+  pub leaving_read : (t : List ℕ) → length t ≡ 256 → scenario_of t leaving_text ≡ Ok (a_read dear leaving_layout (calls_of leaving))
+  pub leaving_begin : (a : ℕ) → started (weighing dear) cores (blocks a) ≡ Ok (first_run a)
+  pub leaving_history : (a : ℕ) → history (first_run a) (calls_of leaving) ≡ leaving
+  pub leaving_tally : (a : ℕ) → (last_run a).tally ≡ tally 22 4 7 916
+  pub leaving_lent : (a : ℕ) → lent_of (last_run a).memory ≡ record { name = a; cells = leaving_table } ∷ []
+  pub leaving_report : (a : ℕ) (t : List ℕ) → length t ≡ 256
+      → text_of (report_lines in_full (scenario_of t leaving_text) cores (blocks a)) ≡ leaving_report_text

@@ -1,4 +1,5 @@
 pub mod Nine
+pub mod Leaving
 pub mod Examples
 pub mod Premises
 pub mod FreeRunning

@@ -11,10 +11,10 @@ pub mod free_running;
 // A theorem has to be named by some function's contract, or the check would not ask for its proof.
 /// The examples hold of the definitions; the answer is how many there are.
 pub fn examples_hold() -> u8
-    ensures count { result ≡ 16 }
+    ensures count { result ≡ 22 }
     ensures hold { Examples }
 {
-    16
+    22
 }
 
 // As above.
