@@ -1,5 +1,5 @@
 -- A study of two cores, each with two levels of two lines: a line that is hit at level 2 pushes a modified one out.
-use Rattle.std.specs.Prelude.{ℕ, true, false, List, [], ◌∷◌, ◌++◌, replicate, Ok, Err, slice_set, codes}
+use Rattle.std.specs.Prelude.{ℕ, true, false, List, [], ◌∷◌, ◌++◌, take, replicate, Ok, Err, slice_set, codes}
 use Rattle.memory.specs.declared.cell.Cell.{Cell}
 use Rattle.memory.specs.declared.cell.State.TheVariants.{Valid, Stale}
 use Rattle.tier.specs.Meaning.{TierMeaning}
@@ -8,6 +8,7 @@ use Rattle.direct.specs.Lines.{direct, empty}
 use Rattle.assoc.specs.Sets.{set_associative, empty as empty-sets}
 use Rattle.protocol.specs.declared.access.CoreState.TheVariants.{Ready}
 use Rattle.protocol.specs.declared.answer.Answer.TheVariants.{Waits, Brought, Read as WasRead, Wrote, Committed}
+use Rattle.protocol.specs.declared.call.Call.{Call}
 use Rattle.protocol.specs.declared.call.Call.TheVariants.{Read, Write, Fetch, Resume, Flush, Commit}
 use Rattle.protocol.specs.declared.refusal.Refusal.TheVariants.{StaleBlock, NotOwed}
 use Rattle.protocol.specs.declared.weights.Prices.{Prices}
@@ -23,16 +24,16 @@ use Rattle.examples.specs.Nine.{cell, blocks, turn}
 abbrev pub caches : TierMeaning
 caches = pile (set_associative (empty-sets 1 2)) (direct (empty 2))
 
-abbrev pub cores : List CoreMeaning
-cores = core caches Ready ∷ core caches Ready ∷ []
+abbrev pub leaving_cores : List CoreMeaning
+leaving_cores = core caches Ready ∷ core caches Ready ∷ []
 
 -- no two are equal: 1 at level 1, 10 at level 2, 20 and 40 at levels that no core has, 100 to or from memory
-abbrev pub dear : Prices
-dear = prices 1 10 20 40 100
+abbrev pub leaving_weights : Prices
+leaving_weights = prices 1 10 20 40 100
 
 -- over the same 16 blocks as the nine calls
-abbrev pub first_run : ℕ → RunMeaning
-first_run a = opened cores (blocks a) dear
+abbrev pub leaving_begun : ℕ → RunMeaning
+leaving_begun a = opened leaving_cores (blocks a) leaving_weights
 
 abbrev pub leaving : List Turn
 leaving =
@@ -64,7 +65,6 @@ leaving =
     ∷ turn (Commit 0 6) (Ok (Committed true)) 605
     ∷ turn (Commit 0 6) (Ok (Committed false)) 605
     -- 3 is hit at level 2, for 10: 6 sinks for it, to the line of 2, which leaves modified and is stored, for 100 more.
-    -- Had 5 not been touched, or had a commit touched 6, then 5 would have sunk, to the line that 3 had left, and nothing would leave.
     ∷ turn (Read 0 3) (Ok (WasRead 2)) 715
     -- 3 kept its mark and stamp down and up again: there is a modified copy to store
     ∷ turn (Commit 0 3) (Ok (Committed true)) 815
@@ -73,7 +73,11 @@ leaving =
     ∷ turn (Resume 1) (Ok (Wrote 4)) 916
     ∷ []
 
--- the scenario that asks for it, and its report: 7 accesses for 916, a mean of 130.857.., rounded down
+-- the calls up to that hit, but without the touch of 5: then 5 sinks for 3, to the line that 3 has left, and nothing leaves
+abbrev pub untouched : List Call
+untouched = take 17 (calls_of leaving) ++ Commit 0 6 ∷ Commit 0 6 ∷ []
+
+-- the scenario that asks for all of them, and its report: 7 accesses for 916, a mean of 130.857.., rounded down
 abbrev pub leaving_text : List ℕ
 leaving_text =
     codes "weights\t1\t10\t20\t40\t100\nref\t1\t2\nref\t2\t3\nref\t3\t5\nref\t4\t6\n"
@@ -93,8 +97,8 @@ abbrev pub leaving_layout : List ℕ
 leaving_layout = slice_set (slice_set (slice_set (slice_set (replicate 256 65536) 1 2) 2 3) 3 5) 4 6
 
 -- the run after the calls
-abbrev pub last_run : ℕ → RunMeaning
-last_run a = played (first_run a) (calls_of leaving)
+abbrev pub leaving_over : ℕ → RunMeaning
+leaving_over a = played (leaving_begun a) (calls_of leaving)
 
 -- block 2 was stored as it left, with stamp 1, and is stale since core 1 wrote it; 3 and 6 were committed
 abbrev pub leaving_table : List Cell

@@ -11,10 +11,10 @@ pub mod free_running;
 // A theorem has to be named by some function's contract, or the check would not ask for its proof.
 /// The examples hold of the definitions; the answer is how many there are.
 pub fn examples_hold() -> u8
-    ensures count { result ≡ 22 }
+    ensures count { result ≡ 23 }
     ensures hold { Examples }
 {
-    22
+    23
 }
 
 // As above.
@@ -30,6 +30,8 @@ pub fn premises_met() -> u8
 
 #[cfg(test)]
 mod memory_tests;
+#[cfg(test)]
+mod scenario_tests;
 #[cfg(test)]
 mod study_tests;
 #[cfg(test)]

@@ -28,7 +28,7 @@ fn turn(call: Call, answer: Result<Answer, Refusal>, total: u64) -> Turn {
     Turn { call, played }
 }
 
-// The calls of the walkthrough, written out again: a test takes no values from a program.
+// The nine calls of docs/SCENARIO.md, as they are answered there: a test takes no values from a program.
 fn nine<R: Row + Drop>(rt: &impl Abort, row: R) {
     let expected = [
         turn(Call::Read(0, 3), Ok(Answer::Waits(3)), 0),

@@ -17,14 +17,14 @@ use Rattle.report.specs.Lines.{text_of}
 use Rattle.simulator.specs.Report.{in_full, report_lines, turn_lines}
 use Rattle.machine.specs.Machine.{two_cores}
 use Rattle.examples.specs.Nine.{weights, blocks, nine, scenario_text, layout}
-use Rattle.examples.specs.Leaving.{cores, dear, leaving, leaving_text, leaving_layout}
+use Rattle.examples.specs.Leaving.{leaving_cores, leaving_weights, leaving, leaving_text, leaving_layout}
 use Rattle.examples.proofs.examples_hold.Goals as goal
 
 read : (t : List ℕ) → length t ≡ 256 → scenario_of t scenario_text ≡ Ok (a_read weights layout (calls_of nine))
 unfolding parts weights_of line_change scan section_of
 read t e = ap (λ n. cond (n == 256) (section_of Scenario unplaced scenario_text) (Err (Layout BadTable))) e
 
-read_leaving : (t : List ℕ) → length t ≡ 256 → scenario_of t leaving_text ≡ Ok (a_read dear leaving_layout (calls_of leaving))
+read_leaving : (t : List ℕ) → length t ≡ 256 → scenario_of t leaving_text ≡ Ok (a_read leaving_weights leaving_layout (calls_of leaving))
 unfolding parts weights_of line_change scan section_of
 read_leaving t e = ap (λ n. cond (n == 256) (section_of Scenario unplaced leaving_text) (Err (Layout BadTable))) e
 
@@ -52,5 +52,6 @@ returns-clause-hold c = record {
   leaving_history = λ a. refl;
   leaving_tally = λ a. refl;
   leaving_lent = λ a. refl;
-  leaving_report = λ a t e. ap (λ r. text_of (report_lines in_full r cores (blocks a))) (read_leaving t e);
+  leaving_report = λ a t e. ap (λ r. text_of (report_lines in_full r leaving_cores (blocks a))) (read_leaving t e);
+  leaving_untouched = λ a. refl;
 }
