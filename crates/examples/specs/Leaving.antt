@@ -64,7 +64,7 @@ leaving =
     -- a commit stores 6, which is shared then, and a second has nothing to store; neither is a use, so 6 stays the one
     ∷ turn (Commit 0 6) (Ok (Committed true)) 605
     ∷ turn (Commit 0 6) (Ok (Committed false)) 605
-    -- 3 is hit at level 2, for 10: 6 sinks for it, to the line of 2, which leaves modified and is stored, for 100 more.
+    -- 3 is hit at level 2, for 10: 6 sinks for it, to the line of 2, which leaves modified and is stored, for 100 more
     ∷ turn (Read 0 3) (Ok (WasRead 2)) 715
     -- 3 kept its mark and stamp down and up again: there is a modified copy to store
     ∷ turn (Commit 0 3) (Ok (Committed true)) 815
@@ -73,11 +73,7 @@ leaving =
     ∷ turn (Resume 1) (Ok (Wrote 4)) 916
     ∷ []
 
--- the calls up to that hit, but without the touch of 5: then 5 sinks for 3, to the line that 3 has left, and nothing leaves
-abbrev pub untouched : List Call
-untouched = take 17 (calls_of leaving) ++ Commit 0 6 ∷ Commit 0 6 ∷ []
-
--- the scenario that asks for all of them, and its report: 7 accesses for 916, a mean of 130.857.., rounded down
+-- the scenario that asks for it, and its report: 7 accesses for 916, a mean of 130.857.., rounded down
 abbrev pub leaving_text : List ℕ
 leaving_text =
     codes "weights\t1\t10\t20\t40\t100\nref\t1\t2\nref\t2\t3\nref\t3\t5\nref\t4\t6\n"
@@ -103,3 +99,7 @@ leaving_over a = played (leaving_begun a) (calls_of leaving)
 -- block 2 was stored as it left, with stamp 1, and is stale since core 1 wrote it; 3 and 6 were committed
 abbrev pub leaving_table : List Cell
 leaving_table = slice_set (slice_set (slice_set (replicate 16 (cell Valid 0)) 2 (cell Stale 1)) 3 (cell Valid 2)) 6 (cell Valid 3)
+
+-- the calls up to the hit at level 2, but without the touch of 5: then 5 sinks for 3, to the line that 3 has left, and nothing leaves
+abbrev pub untouched : List Call
+untouched = take 17 (calls_of leaving) ++ Commit 0 6 ∷ Commit 0 6 ∷ []
