@@ -1,5 +1,5 @@
 -- A memory over a table of cells: block n is cell n.
-use Rattle.std.specs.Prelude.{ℕ, Bool, cond, List, [], ◌∷◌, length, get_or, nat_lt, slice_index_or, slice_set}
+use Rattle.std.specs.Prelude.{ℕ, Bool, cond, List, [], ◌∷◌, length, nat_lt, slice_index_or, slice_set}
 use Rattle.device.specs.Device.{device}
 use Rattle.memory.specs.declared.cell.Cell.{Cell}
 use Rattle.memory.specs.declared.cell.State.TheVariants.{Valid, Stale}
@@ -23,7 +23,7 @@ write t n x = cond (nat_lt n (flat_size t)) (slice_set t n x) t
 -- a cell made stale keeps its stamp
 abbrev pub flat_step : List Cell → MemoryCall → List Cell
 flat_step t (store n s) = write t n (record { state = Valid; stamp = s })
-flat_step t (stale n) = write t n (record { state = Stale; stamp = (get_or t n no_cell).stamp })
+flat_step t (stale n) = write t n (record { state = Stale; stamp = (slice_index_or t n no_cell).stamp })
 
 abbrev pub flat_view : ℕ → List Cell → View
 flat_view a t = record { cell = λ n. slice_index_or t n no_cell; lent = record { name = a; cells = t } ∷ [] }

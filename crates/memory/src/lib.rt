@@ -15,9 +15,6 @@ pub trait Memory {
     /// What the memory shows after any list of calls.
     ghost meaning: { Self → MemoryMeaning };
 
-    /// What each kind proves: the laws of a memory, now and after any list of calls.
-    ghost lawful: { (m : Self) → Lawful (meaning m) };
-
     /// How many blocks there are, at most 65,536.
     fn size(&self) -> u32
         ensures { result ≡ size_of (meaning self.now) };
@@ -35,4 +32,7 @@ pub trait Memory {
     fn stale(&mut self, block: u16) -> Result<(), Refusal>
         ensures answer { result ≡ granted (meaning self.old) block }
         ensures next { meaning self.new ≡ after (meaning self.old) (stale block) };
+
+    /// What each kind proves: the laws of a memory, now and after any list of calls.
+    ghost lawful: { (m : Self) → Lawful (meaning m) };
 }

@@ -1,5 +1,5 @@
 -- What each movement of a block costs.
-use Rattle.std.specs.Prelude.{ℕ, ◌≤◌, Bool, cond, ◌||◌, Ok, Err, Result, ◌==◌, nat_lt}
+use Rattle.std.specs.Prelude.{◌≡◌, ℕ, Bool, false, cond, ◌||◌, Ok, Err, Result, ◌==◌, nat_lt}
 use Rattle.protocol.specs.declared.refusal.Refusal.{Refusal}
 use Rattle.protocol.specs.declared.refusal.Refusal.TheVariants.{WeightTooHigh}
 use Rattle.protocol.specs.declared.weights.Movement.{Movement}
@@ -26,18 +26,14 @@ price w Memory = w.wm
 abbrev pub most_weight : ℕ
 most_weight = 1000
 
--- one of the five is above it
-abbrev pub is_dear : Prices → Bool
+-- one of the five weights is above it
+unfoldable pub is_dear : Prices → Bool
 is_dear w = nat_lt most_weight w.w1 || (nat_lt most_weight w.w2 || (nat_lt most_weight w.w3 || (nat_lt most_weight w.w4 || nat_lt most_weight w.wm)))
 
 -- all five weights are set, or none if one is too high
 abbrev pub weighing : Prices → Result Prices Refusal
 weighing w = cond (is_dear w) (Err WeightTooHigh) (Ok w)
 
--- none of the five is above it
-pub record Affordable (w : Prices) : Type 0 where
-  pub w1 : w.w1 ≤ most_weight
-  pub w2 : w.w2 ≤ most_weight
-  pub w3 : w.w3 ≤ most_weight
-  pub w4 : w.w4 ≤ most_weight
-  pub wm : w.wm ≤ most_weight
+-- weights that weighing takes: none is above it
+abbrev pub Affordable : Prices → Type 0
+Affordable w = is_dear w ≡ false

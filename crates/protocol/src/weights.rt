@@ -43,6 +43,7 @@ impl TryFrom<Prices> for Weights {
 
     ghost try_from_gives = { λ p r. weighed r ≡ weighing p };
 
+    #[tactic(auto, unfolding(crate::specs::Prices::is_dear))]
     fn try_from(prices: Prices) -> Result<Weights, Refusal> {
         if prices.w1 > MOST_WEIGHT
             || prices.w2 > MOST_WEIGHT
@@ -60,6 +61,7 @@ impl Weights {
     ghost use Rattle.protocol.specs.Weighing.{prices_of};
 
     /// Weights that are all 0.
+    #[tactic(auto, unfolding(crate::specs::Prices::is_dear))]
     pub fn zero() -> Weights
         ensures { prices_of result ≡ none }
     {
@@ -69,6 +71,7 @@ impl Weights {
     }
 
     /// What a movement costs.
+    #[tactic(auto, unfolding(crate::specs::Prices::is_dear))]
     pub fn price(self, movement: Movement) -> u16
         ensures price { result ≡ price (prices_of self) movement }
         ensures bound { result ≤ most_weight }

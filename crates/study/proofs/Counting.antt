@@ -20,17 +20,8 @@ use Rattle.study.specs.Play.{played, history}
 use Rattle.study.specs.Words.{is_accepted, is_wrote, is_access, one_if, counted}
 use Rattle.study.specs.Report.{charged_for, if_left, ServedFrom, Costs, TotalsFrom, Reported}
 use Rattle.protocol.specs.Prices.{Affordable}
+use Rattle.protocol.proofs.Affording.{priced}
 use Rattle.study.proofs.Outcomes.{Served, Moved, performed_by, of_step}
-
--- no movement costs more than 1,000
-priced : (w : Prices) → Affordable w → (a : Movement) → price w a ≤ 1000
-priced w h Still = omega arith
-priced w h Memory = h.wm
-priced w h (FromLevel l) = either (eqb l 1) _ _ h.w1 (either (eqb l 2) _ _ h.w2 (either (eqb l 3) _ _ h.w3 h.w4))
-  where
-    either : (b : Bool) (i j : ℕ) → i ≤ 1000 → j ≤ 1000 → cond b i j ≤ 1000
-    either true i j p q = p
-    either false i j p q = q
 
 -- ---- one step
 

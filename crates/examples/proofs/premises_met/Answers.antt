@@ -26,7 +26,7 @@ use Rattle.protocol.specs.declared.refusal.Refusal.{Refusal}
 use Rattle.protocol.specs.declared.refusal.Refusal.TheVariants.{NoBlocks}
 use Rattle.study.specs.Run.{RunMeaning}
 use Rattle.study.specs.Opening.{opened, opening}
-use Rattle.protocol.specs.Prices.{Affordable}
+use Rattle.protocol.specs.Prices.{is_dear, Affordable}
 use Rattle.study.proofs.Warranty.{warrant}
 use Rattle.examples.specs.Nine.{weights}
 use Rattle.examples.specs.Examples.{puts}
@@ -51,7 +51,8 @@ few : count_of two_cores ≤ 8
 few = omega arith
 
 fair : Affordable weights
-fair = record { w1 = omega arith; w2 = omega arith; w3 = omega arith; w4 = omega arith; wm = omega arith }
+unfolding is_dear
+fair = refl
 
 -- a table of 1 to 4,096 cells is a memory of so many blocks, so that the study opens
 opens : (a : ℕ) (t : List Cell) → 1 ≤ length t → length t ≤ 4096 → opening two_cores (flat a t) weights ≡ Ok (opened two_cores (flat a t) weights)

@@ -8,4 +8,4 @@ pub returns-clause-warrant : goal.returns-clause-warrant
 returns-clause-warrant g c =
     let draft = c.args.self in
     let few : count_of (g.R.Row.cores draft.row) ≤ 8 = search rules in
-    warrant _ _ _ few (g.met.R.Row.lawful draft.row) (g.M.Memory.lawful draft.memory) draft.weights.affordable
+    warrant _ _ _ few (g.met.R.Row.lawful draft.row) (g.met.M.Memory.lawful draft.memory) draft.weights.affordable

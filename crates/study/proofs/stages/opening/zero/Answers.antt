@@ -3,4 +3,4 @@ use Rattle.std.proofs.Common.{[], arith}
 use Rattle.study.proofs.stages.opening.zero.Goals as goal
 
 pub overflow_cast-block : goal.overflow_cast-block
-overflow_cast-block g c = omega (arith, (g.M.Memory.lawful c.args.memory.now []).bounded)
+overflow_cast-block g c = omega (arith, (g.met.M.Memory.lawful c.args.memory.now []).bounded)
