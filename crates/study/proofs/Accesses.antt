@@ -112,7 +112,7 @@ module _ (r : RunMeaning) (b : Book) (k : Call) (S : Sound r.cores r.memory b.nu
   ok : Lawful t
   ok = S.tiers c lt
 
-  waiting-good : (a : Access) → Asks k (state_at cs c) a → block_of a < size_of m → asking k b.asked c ≡ block_of a → look_of t (block_of a) ≡ None
+  waiting-good : (a : Access) → Asks k c (state_at cs c) a → block_of a < size_of m → asking k b.asked c ≡ block_of a → look_of t (block_of a) ≡ None
       → Good r b k (waiting r c a)
   waiting-good a asks h q e =
       let R = placed cs c (core t (Waiting a)) S.short lt in
@@ -206,7 +206,7 @@ module _ (r : RunMeaning) (b : Book) (k : Call) (S : Sound r.cores r.memory b.nu
     cost₁ : charged r.prices (FromLevel h.2) (movement_of out) ≡ level_price r.prices h.2 + leaving_price r.prices out
     cost₁ = ap (λ i. level_price r.prices h.2 + i) (leaving_cost r.prices out)
 
-    reading-good : Asks k (state_at cs c) (ToRead n) → Good r b k (reading r c n h)
+    reading-good : Asks k c (state_at cs c) (ToRead n) → Good r b k (reading r c n h)
     reading-good asks = record {
       inv = record {
         sound = sound₁;
@@ -298,7 +298,7 @@ module _ (r : RunMeaning) (b : Book) (k : Call) (S : Sound r.cores r.memory b.nu
       count = ap (λ i. i + 1) count;
     }
 
-    writing-good : Asks k (state_at cs c) (ToWrite n) → may_write k ≡ true → Good r b k (writing r c n h)
+    writing-good : Asks k c (state_at cs c) (ToWrite n) → may_write k ≡ true → Good r b k (writing r c n h)
     writing-good asks credit =
         let Kept-by : Bool → Type 0 = λ x. Inv (writing r c n h).run (cond x credited (heard b k Wrote)) in
         record {
@@ -337,10 +337,10 @@ module _ (r : RunMeaning) (b : Book) (k : Call) (S : Sound r.cores r.memory b.nu
           honest = silent;
         }
 
-  pub access-good : (a : Access) → Asks k (state_at cs c) a → Credits k a → block_of a < size_of m → asking k b.asked c ≡ block_of a → Good r b k (access r c a)
+  pub access-good : (a : Access) → Asks k c (state_at cs c) a → Credits k a → block_of a < size_of m → asking k b.asked c ≡ block_of a → Good r b k (access r c a)
   access-good a asks w h q = go a asks w h q (look_of t (block_of a)) refl
     where
-      go : (a : Access) → Asks k (state_at cs c) a → Credits k a → block_of a < size_of m → asking k b.asked c ≡ block_of a
+      go : (a : Access) → Asks k c (state_at cs c) a → Credits k a → block_of a < size_of m → asking k b.asked c ≡ block_of a
           → (o : Option Holding) → look_of t (block_of a) ≡ o → Good r b k (access_by r c a o)
       go a asks w h q None e = waiting-good a asks h q e
       go (ToRead n) asks w h q (Some x) e = reading-good n x q e asks

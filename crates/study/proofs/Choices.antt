@@ -92,13 +92,13 @@ same_due : (a a' : Access) → ◌≡◌ {A = CoreState} (Due a) (Due a') → a 
 same_due a a' e = ap (access_in a) e
 
 -- a call asks for one access
-same_asked : (k : Call) (s : CoreState) (a a' : Access) → Asks k s a → Asks k s a' → a ≡ a'
-same_asked (Read c n) s a a' p q = p.1 ∙ sym q.1
-same_asked (Write c n) s a a' p q = p.1 ∙ sym q.1
-same_asked (Fetch c) s a a' p q = absurd p
-same_asked (Resume c) s a a' p q = same_due a a' (sym p ∙ q)
-same_asked (Flush c n) s a a' p q = absurd p
-same_asked (Commit c n) s a a' p q = absurd p
+same_asked : (k : Call) (d : ℕ) (s : CoreState) (a a' : Access) → Asks k d s a → Asks k d s a' → a ≡ a'
+same_asked (Read c n) d s a a' p q = p.2 ∙ sym q.2
+same_asked (Write c n) d s a a' p q = p.2 ∙ sym q.2
+same_asked (Fetch c) d s a a' p q = absurd p
+same_asked (Resume c) d s a a' p q = same_due a a' (sym p.1 ∙ q.1)
+same_asked (Flush c n) d s a a' p q = absurd p
+same_asked (Commit c n) d s a a' p q = absurd p
 
 -- a level has one weight
 one_weight : (w : Prices) (l p q : ℕ) → LevelWeight w l p → LevelWeight w l q → p ≡ q
@@ -122,13 +122,13 @@ answer_kind (Flushed n) = 2
 answer_kind (Committed b) = 3
 answer_kind _ = 0
 
-asking_kind : (k : Call) (s : CoreState) (a : Access) → Asks k s a → 0 ≡ kind_of k
-asking_kind (Read c n) s a p = refl
-asking_kind (Write c n) s a p = refl
-asking_kind (Fetch c) s a p = absurd p
-asking_kind (Resume c) s a p = refl
-asking_kind (Flush c n) s a p = absurd p
-asking_kind (Commit c n) s a p = absurd p
+asking_kind : (k : Call) (d : ℕ) (s : CoreState) (a : Access) → Asks k d s a → 0 ≡ kind_of k
+asking_kind (Read c n) d s a p = refl
+asking_kind (Write c n) d s a p = refl
+asking_kind (Fetch c) d s a p = absurd p
+asking_kind (Resume c) d s a p = refl
+asking_kind (Flush c n) d s a p = absurd p
+asking_kind (Commit c n) d s a p = absurd p
 
 abbrev block_in : Call → ℕ
 block_in (Flush c n) = n
@@ -193,7 +193,7 @@ module _ (k : Call) (r r₁ r₂ : RunMeaning) (e₁ e₂ : ℕ) where
 
   waits : (n n' : ℕ) → NowWaits k c n r r₁ e₁ → NowWaits k c n' r r₂ e₂ → Alike (Waits n) (Waits n')
   waits n n' T U =
-      let a : T.wanted ≡ U.wanted = same_asked k _ T.wanted U.wanted T.asked U.asked in
+      let a : T.wanted ≡ U.wanted = same_asked k _ _ T.wanted U.wanted T.asked U.asked in
       record {
         answer = ap (λ i. Ok (Waits i)) (sym T.block ∙ ap block_of a ∙ U.block);
         charge = T.charged ∙ sym U.charged;
@@ -237,7 +237,7 @@ module _ (k : Call) (r r₁ r₂ : RunMeaning) (e₁ e₂ : ℕ) where
 
   reads : (s s' : ℕ) → NowRead k c s r r₁ e₁ → NowRead k c s' r r₂ e₂ → Alike (WasRead s) (WasRead s')
   reads s s' T U =
-      let nn : T.block ≡ U.block = ap block_of (same_asked k _ (ToRead T.block) (ToRead U.block) T.asked U.asked) in
+      let nn : T.block ≡ U.block = ap block_of (same_asked k _ _ (ToRead T.block) (ToRead U.block) T.asked U.asked) in
       let kk = marks _ _ nn T.mark U.mark s s' T.level U.level T.access.held U.access.held in
       let ss = stamps _ _ nn T.mark U.mark s s' T.level U.level T.access.held U.access.held in
       let ll = levels _ _ nn T.mark U.mark s s' T.level U.level T.access.held U.access.held in
@@ -252,7 +252,7 @@ module _ (k : Call) (r r₁ r₂ : RunMeaning) (e₁ e₂ : ℕ) where
 
   writes : (s s' : ℕ) → NowWrote k c s r r₁ e₁ → NowWrote k c s' r r₂ e₂ → Alike (Wrote s) (Wrote s')
   writes s s' T U =
-      let nn : T.block ≡ U.block = ap block_of (same_asked k _ (ToWrite T.block) (ToWrite U.block) T.asked U.asked) in
+      let nn : T.block ≡ U.block = ap block_of (same_asked k _ _ (ToWrite T.block) (ToWrite U.block) T.asked U.asked) in
       let kk = marks _ _ nn T.mark U.mark T.before U.before T.level U.level T.access.held U.access.held in
       let bb = stamps _ _ nn T.mark U.mark T.before U.before T.level U.level T.access.held U.access.held in
       let ll = levels _ _ nn T.mark U.mark T.before U.before T.level U.level T.access.held U.access.held in
@@ -287,26 +287,26 @@ module _ (k : Call) (r r₁ r₂ : RunMeaning) (e₁ e₂ : ℕ) where
   not_held n n' s l nn f h = absurd (f s (ap (copy_of r.cores c) nn ∙ ap bare h))
 
   answered_kind : (r' : RunMeaning) (e : ℕ) (x : Answer) → Answered k r r' x e → answer_kind x ≡ kind_of k
-  answered_kind r' e (Waits n) T = asking_kind k _ T.wanted T.asked
+  answered_kind r' e (Waits n) T = asking_kind k _ _ T.wanted T.asked
   answered_kind r' e (Brought n) T = sym (ap kind_of T.0)
-  answered_kind r' e (WasRead s) T = asking_kind k _ (ToRead T.block) T.asked
-  answered_kind r' e (Wrote s) T = asking_kind k _ (ToWrite T.block) T.asked
+  answered_kind r' e (WasRead s) T = asking_kind k _ _ (ToRead T.block) T.asked
+  answered_kind r' e (Wrote s) T = asking_kind k _ _ (ToWrite T.block) T.asked
   answered_kind r' e (Flushed n) T = sym (ap kind_of T.0)
   answered_kind r' e (Committed b) T = sym (ap kind_of T.1)
 
   answered_alike : (x y : Answer) → answer_kind x ≡ answer_kind y → Answered k r r₁ x e₁ → Answered k r r₂ y e₂ → Alike x y
   answered_alike (Waits n) (Waits n') z T U = waits n n' T U
   answered_alike (Waits n) (WasRead s) z T U =
-      lacking n U.block U.mark s U.level (sym T.block ∙ ap block_of (same_asked k _ T.wanted (ToRead U.block) T.asked U.asked)) T.lacked U.access.held
+      lacking n U.block U.mark s U.level (sym T.block ∙ ap block_of (same_asked k _ _ T.wanted (ToRead U.block) T.asked U.asked)) T.lacked U.access.held
   answered_alike (Waits n) (Wrote s) z T U =
-      lacking n U.block U.mark U.before U.level (sym T.block ∙ ap block_of (same_asked k _ T.wanted (ToWrite U.block) T.asked U.asked)) T.lacked U.access.held
+      lacking n U.block U.mark U.before U.level (sym T.block ∙ ap block_of (same_asked k _ _ T.wanted (ToWrite U.block) T.asked U.asked)) T.lacked U.access.held
   answered_alike (WasRead s) (Waits n) z T U =
-      lacking n T.block T.mark s T.level (sym U.block ∙ ap block_of (same_asked k _ U.wanted (ToRead T.block) U.asked T.asked)) U.lacked T.access.held
+      lacking n T.block T.mark s T.level (sym U.block ∙ ap block_of (same_asked k _ _ U.wanted (ToRead T.block) U.asked T.asked)) U.lacked T.access.held
   answered_alike (WasRead s) (WasRead s') z T U = reads s s' T U
-  answered_alike (WasRead s) (Wrote s') z T U = read-write T.block U.block (same_asked k _ (ToRead T.block) (ToWrite U.block) T.asked U.asked)
+  answered_alike (WasRead s) (Wrote s') z T U = read-write T.block U.block (same_asked k _ _ (ToRead T.block) (ToWrite U.block) T.asked U.asked)
   answered_alike (Wrote s) (Waits n) z T U =
-      lacking n T.block T.mark T.before T.level (sym U.block ∙ ap block_of (same_asked k _ U.wanted (ToWrite T.block) U.asked T.asked)) U.lacked T.access.held
-  answered_alike (Wrote s) (WasRead s') z T U = read-write U.block T.block (same_asked k _ (ToRead U.block) (ToWrite T.block) U.asked T.asked)
+      lacking n T.block T.mark T.before T.level (sym U.block ∙ ap block_of (same_asked k _ _ U.wanted (ToWrite T.block) U.asked T.asked)) U.lacked T.access.held
+  answered_alike (Wrote s) (WasRead s') z T U = read-write U.block T.block (same_asked k _ _ (ToRead U.block) (ToWrite T.block) U.asked T.asked)
   answered_alike (Wrote s) (Wrote s') z T U = writes s s' T U
   answered_alike (Brought n) (Brought n') z T U = brought n n' T.1 U.1
   answered_alike (Flushed n) (Flushed n') z T U =

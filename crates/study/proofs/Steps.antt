@@ -66,6 +66,10 @@ unmodified (Some h) s e x =
 full : {i j : ℕ} → j ≤ i → i < j → ⊥
 full le lt = omega (arith, le, lt)
 
+-- of at most eight cores, each is counted
+not_there : (c : ℕ) (cs : List CoreMeaning) → length cs ≤ 8 → count_of cs ≤ c → c < length cs → ⊥
+not_there c cs short le lt = omega (arith, short, le, lt)
+
 -- the three states are apart
 ready-waiting : (a : Access) → ◌≡◌ {A = CoreState} Ready (Waiting a) → ⊥
 ready-waiting a e = let z : ◌≡◌ {A = ℕ} 0 1 = cc in omega arith
@@ -104,7 +108,7 @@ module _ (r : RunMeaning) (b : Book) (I : Inv r b) where
   provided-good k false e o why f = refused-good k e (why refl)
 
   -- an access that the call names, and one that was due
-  named-good : (k : Call) (a : Access) → Allowed k r → Asks k (state_at cs (core_of k)) a → Credits k a → asking k b.asked ≡ but b.asked (core_of k) (block_of a) → core_of k < length cs → block_of a < size_of m
+  named-good : (k : Call) (a : Access) → Allowed k r → Asks k (core_of k) (state_at cs (core_of k)) a → Credits k a → asking k b.asked ≡ but b.asked (core_of k) (block_of a) → core_of k < length cs → block_of a < size_of m
       → Good r b k (access r (core_of k) a)
   named-good k a may asks w q lt h =
       access-good r b k S lt (λ d ne. rw (q, but-other b.asked (core_of k) (block_of a) d ne) (I.states d)) I.count may a asks w h (rw (q, but_same b.asked (core_of k) (block_of a)))
@@ -112,7 +116,7 @@ module _ (r : RunMeaning) (b : Book) (I : Inv r b) where
   resume_good : (c : ℕ) (a : Access) → Allowed (Resume c) r → c < length cs → state_at cs c ≡ Due a → Good r b (Resume c) (access r c a)
   resume_good c a may lt e =
       let W : Stands (size_of m) (b.asked c) (core (tier_at cs c) (Due a)) = rw e at (I.states c) in
-      access-good r b (Resume c) S lt (λ d ne. I.states d) I.count may a e (resume_credits c a) W.0 W.1
+      access-good r b (Resume c) S lt (λ d ne. I.states d) I.count may a (refl, e) (resume_credits c a) W.0 W.1
 
   -- core c
   module _ (c : ℕ) (lt : c < length cs) where
@@ -283,10 +287,10 @@ module _ (r : RunMeaning) (b : Book) (I : Inv r b) where
         }
 
   act-good : (k : Call) → Named k r → core_of k < length cs → (s : CoreState) → state_at cs (core_of k) ≡ s → Good r b k (act r k s)
-  act-good (Read c n) N lt Ready e = named-good (Read c n) (ToRead n) (allowed (Read c n) r N e tt tt) (e, refl) tt refl lt N.block
+  act-good (Read c n) N lt Ready e = named-good (Read c n) (ToRead n) (allowed (Read c n) r N e tt tt) (refl, e, refl) tt refl lt N.block
   act-good (Read c n) N lt (Waiting a) e = refused-good (Read c n) WrongState (wrong_state (Read c n) r N λ w. ready-waiting a (sym w ∙ e))
   act-good (Read c n) N lt (Due a) e = refused-good (Read c n) WrongState (wrong_state (Read c n) r N λ w. ready-due a (sym w ∙ e))
-  act-good (Write c n) N lt Ready e = named-good (Write c n) (ToWrite n) (allowed (Write c n) r N e tt tt) (e, refl) refl refl lt N.block
+  act-good (Write c n) N lt Ready e = named-good (Write c n) (ToWrite n) (allowed (Write c n) r N e tt tt) (refl, e, refl) refl refl lt N.block
   act-good (Write c n) N lt (Waiting a) e = refused-good (Write c n) WrongState (wrong_state (Write c n) r N λ w. ready-waiting a (sym w ∙ e))
   act-good (Write c n) N lt (Due a) e = refused-good (Write c n) WrongState (wrong_state (Write c n) r N λ w. ready-due a (sym w ∙ e))
   act-good (Fetch c) N lt Ready e = refused-good (Fetch c) WrongState (wrong_state (Fetch c) r N λ w. ready-waiting w.0 (sym e ∙ w.1))
@@ -306,7 +310,7 @@ module _ (r : RunMeaning) (b : Book) (I : Inv r b) where
   unfolding step
   step-good k =
       provided-good k (ltb r.tally.steps most_steps) TooManySteps _ (λ x. no_room k r (λ h. full (ltb-false _ _ x) h)) λ x.
-      provided-good k (ltb (core_of k) (count_of cs)) NoSuchCore _ (λ y. no_core k r (ltb-true _ _ x) (λ h. full (ltb-false _ _ y) h)) λ y.
-      provided-good k (fits_in (size_of m) k) NoSuchBlock _ (λ z. no_block k r (ltb-true _ _ x) (ltb-true _ _ y) (not_in_memory k m z)) λ z.
+      provided-good k (ltb (core_of k) (count_of cs)) NoSuchCore _ (λ y. no_core k r (ltb-true _ _ x) (not_there (core_of k) cs S.short (ltb-false _ _ y))) λ y.
       let lt : core_of k < length cs = omega (arith, ltb-true _ _ y) in
-      act-good k (record { room = ltb-true _ _ x; core = ltb-true _ _ y; block = in_memory k m z }) lt (state_at cs (core_of k)) refl
+      provided-good k (fits_in (size_of m) k) NoSuchBlock _ (λ z. no_block k r (ltb-true _ _ x) lt (not_in_memory k m z)) λ z.
+      act-good k (record { room = ltb-true _ _ x; core = lt; block = in_memory k m z }) lt (state_at cs (core_of k)) refl

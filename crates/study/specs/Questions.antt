@@ -1,5 +1,6 @@
--- The questions that are put to a step, in the order of the numbers of their refusals, and when each is answered by yes.
-use Rattle.std.specs.Prelude.{◌≡◌, ℕ, ◌<◌, ◌≢◌, List, Some}
+-- The questions that are put to an opening and to a step, in the order of the numbers of their refusals, and when each is answered
+-- by yes.
+use Rattle.std.specs.Prelude.{◌≡◌, ℕ, ◌<◌, ◌≤◌, ◌≢◌, List, length, Some, Ok, Err, Result}
 use Rattle.parts.specs.declared.mark.Mark.TheVariants.{Modified}
 use Rattle.memory.specs.Meaning.{MemoryMeaning, size_of}
 use Rattle.protocol.specs.declared.access.Access.{Access}
@@ -8,11 +9,11 @@ use Rattle.protocol.specs.declared.access.CoreState.TheVariants.{Ready, Waiting,
 use Rattle.protocol.specs.declared.call.Call.{Call}
 use Rattle.protocol.specs.declared.call.Call.TheVariants.{Read, Write, Fetch, Resume, Flush, Commit}
 use Rattle.protocol.specs.declared.refusal.Refusal.{Refusal}
-use Rattle.protocol.specs.declared.refusal.Refusal.TheVariants.{TooManySteps, NoSuchCore, NoSuchBlock, WrongState, StaleBlock, NotOwed}
+use Rattle.protocol.specs.declared.refusal.Refusal.TheVariants.{TooManyCores, NoBlocks, TooManySteps, NoSuchCore, NoSuchBlock, WrongState, StaleBlock, NotOwed}
 use Rattle.protocol.specs.Accesses.{block_of}
 use Rattle.protocol.specs.Calls.{core_of}
 use Rattle.protocol.specs.Refusals.{refusal_number}
-use Rattle.row.specs.Cores.{CoreMeaning, count_of, state_at}
+use Rattle.row.specs.Cores.{CoreMeaning, state_at}
 use Rattle.study.specs.Run.{RunMeaning}
 use Rattle.study.specs.Step.{valid}
 use Rattle.study.specs.Coherence.{Holds}
@@ -57,7 +58,7 @@ pub record Owes (c n : ℕ) (cs : List CoreMeaning) : Type 0 where
 -- is the core in the state, can a fetch be made, is a flush owed; no other is put to a step
 abbrev pub Yes : Refusal → Call → RunMeaning → Type 0
 Yes TooManySteps k r = r.tally.steps < 1000000
-Yes NoSuchCore k r = core_of k < count_of r.cores
+Yes NoSuchCore k r = core_of k < length r.cores
 Yes NoSuchBlock k r = InMemory k r.memory
 Yes WrongState k r = Fits k (state_at r.cores (core_of k))
 Yes StaleBlock (Fetch c) r = CanFetch c r
@@ -72,3 +73,20 @@ Allowed k r = (e : Refusal) → Yes e k r
 pub record Because (k : Call) (r : RunMeaning) (e : Refusal) : Type 0 where
   pub no : Yes e k r → ⊥
   pub before : (d : Refusal) → refusal_number d < refusal_number e → Yes d k r
+
+-- the question of an opening that a refusal says no to is answered by yes: has the row at most eight cores, has the memory a block;
+-- no other is put to an opening
+abbrev pub OpeningYes : Refusal → List CoreMeaning → MemoryMeaning → Type 0
+OpeningYes TooManyCores cs m = length cs ≤ 8
+OpeningYes NoBlocks cs m = 0 < size_of m
+OpeningYes _ cs m = Unit {0}
+
+-- a draft is not opened where a question is answered by no, and each with a lower number by yes
+pub record Unopened (cs : List CoreMeaning) (m : MemoryMeaning) (e : Refusal) : Type 0 where
+  pub no : OpeningYes e cs m → ⊥
+  pub before : (d : Refusal) → refusal_number d < refusal_number e → OpeningYes d cs m
+
+-- it is opened where every question is answered by yes
+abbrev pub OpeningTold : List CoreMeaning → MemoryMeaning → Result RunMeaning Refusal → Type 0
+OpeningTold cs m (Ok r) = (e : Refusal) → OpeningYes e cs m
+OpeningTold cs m (Err e) = Unopened cs m e

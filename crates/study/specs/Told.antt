@@ -26,12 +26,12 @@ use Rattle.study.specs.Step.{valid, step}
 use Rattle.study.specs.Coherence.{Holds, Lacks, copy_of}
 use Rattle.study.specs.Questions.{Wanted, Allowed, Because}
 
--- to a core in the state s the call asks for the access a
-abbrev pub Asks : Call → CoreState → Access → Type 0
-Asks (Read c n) s a = (s ≡ Ready) × (a ≡ ToRead n)
-Asks (Write c n) s a = (s ≡ Ready) × (a ≡ ToWrite n)
-Asks (Resume c) s a = s ≡ Due a
-Asks _ s a = ⊥
+-- of core d, in the state s, the call asks for the access a
+abbrev pub Asks : Call → ℕ → CoreState → Access → Type 0
+Asks (Read c n) d s a = (c ≡ d) × (s ≡ Ready) × (a ≡ ToRead n)
+Asks (Write c n) d s a = (c ≡ d) × (s ≡ Ready) × (a ≡ ToWrite n)
+Asks (Resume c) d s a = (c ≡ d) × (s ≡ Due a)
+Asks _ d s a = ⊥
 
 -- core c holds block n with this mark and stamp at level l
 abbrev pub HoldsAt : List CoreMeaning → ℕ → ℕ → Mark → ℕ → ℕ → Type 0
@@ -116,7 +116,7 @@ pub record Rest (c n : ℕ) (r r' : RunMeaning) : Type 0 where
 -- core c lacks block n, which it is asked for, and waits, free of charge; no tier and no memory is altered
 pub record NowWaits (k : Call) (c n : ℕ) (r r' : RunMeaning) (charge : ℕ) : Type 0 where
   pub wanted : Access
-  pub asked : Asks k (state_at r.cores c) wanted
+  pub asked : Asks k c (state_at r.cores c) wanted
   pub block : block_of wanted ≡ n
   pub lacked : Lacks r.cores c n
   pub waits : state_at r'.cores c ≡ Waiting wanted
@@ -154,7 +154,7 @@ pub record Accessed (c n : ℕ) (k : Mark) (s l : ℕ) (r r' : RunMeaning) (char
 -- core c held the block that it was asked to read, with the stamp s, and holds it so at level 1
 pub record NowRead (k : Call) (c s : ℕ) (r r' : RunMeaning) (charge : ℕ) : Type 0 where
   pub block : ℕ
-  pub asked : Asks k (state_at r.cores c) (ToRead block)
+  pub asked : Asks k c (state_at r.cores c) (ToRead block)
   pub mark : Mark
   pub level : ℕ
   pub access : Accessed c block mark s level r r' charge
@@ -168,7 +168,7 @@ pub record NowRead (k : Call) (c s : ℕ) (r r' : RunMeaning) (charge : ℕ) : T
 -- one more than the writes before
 pub record NowWrote (k : Call) (c s : ℕ) (r r' : RunMeaning) (charge : ℕ) : Type 0 where
   pub block : ℕ
-  pub asked : Asks k (state_at r.cores c) (ToWrite block)
+  pub asked : Asks k c (state_at r.cores c) (ToWrite block)
   pub mark : Mark
   pub before : ℕ
   pub level : ℕ

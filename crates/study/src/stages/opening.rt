@@ -4,6 +4,7 @@ ghost use Rattle.memory.specs.Meaning.{size_of};
 ghost use Rattle.protocol.specs.Prices.{none, weighing};
 ghost use Rattle.protocol.specs.Weighing.{prices_of};
 ghost use Rattle.study.specs.Opening.{zeroed, opening};
+ghost use Rattle.study.specs.Questions.{OpeningTold};
 ghost use Rattle.study.specs.Stages.{opened_as, weighed_as, answer_of};
 ghost use Rattle.study.specs.Warrant.{Warranted};
 
@@ -56,6 +57,7 @@ impl<R: Row, M: Memory> Draft<R, M> {
     /// warranted, whatever its calls. A draft that is refused comes back whole, with nothing touched.
     pub fn open(self) -> Result<Run<R, M>, RefusedDraft<R, M>>
         ensures run { opened_as R.cores M.meaning result ≡ opening (R.cores self.row) (M.meaning self.memory) (prices_of self.weights) }
+        ensures asked { OpeningTold (R.cores self.row) (M.meaning self.memory) (opened_as R.cores M.meaning result) }
         ensures back { IfErr result (λ e. e.draft ≡ self) }
         ensures warrant { OnOk result (Warranted (R.cores self.row) (M.meaning self.memory) (prices_of self.weights)) }
     {
