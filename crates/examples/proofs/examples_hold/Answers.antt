@@ -2,6 +2,7 @@
 use Rattle.std.proofs.Common.{◌≡◌, ℕ, ◌-◌, ◌==◌, min, cond, List, length, Ok, Err, refl, ap}
 use Rattle.std.specs.Fmt.{digits}
 use Rattle.fields.specs.Parts.{parts}
+use Rattle.protocol.specs.Prices.{is_dear}
 use Rattle.row.specs.Cores.{absent, core_at, place, invalidated, met, awaited, renewed}
 use Rattle.study.specs.Step.{step}
 use Rattle.study.specs.Opening.{zeroed}
@@ -29,7 +30,7 @@ unfolding parts weights_of line_change scan section_of
 read_leaving t e = ap (λ n. cond (n == 256) (section_of Scenario unplaced leaving_text) (Err (Layout BadTable))) e
 
 pub returns-clause-hold : goal.returns-clause-hold
-unfolding step played history absent core_at place invalidated met awaited renewed zeroed text_of turn_lines digits
+unfolding is_dear step played history absent core_at place invalidated met awaited renewed zeroed text_of turn_lines digits
 returns-clause-hold c = record {
   direct_two = refl;
   set_touched = refl;
