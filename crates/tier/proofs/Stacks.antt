@@ -7,14 +7,15 @@ use Rattle.device.specs.Device.{Device, after, reach, run}
 use Rattle.device.specs.Laws.{device-after}
 use Rattle.parts.specs.declared.mark.Mark.{Mark}
 use Rattle.parts.specs.declared.line.Line.{Line}
+use Rattle.parts.specs.Marks.{mark_number}
 use Rattle.tier.specs.Meaning.{TierMeaning, TierCall, put, take, change, touch, clear, Holding, depth_of, look_of, out_of, if_held, bare, Lawful}
-use Rattle.tier.specs.Pile.{Parts, parts, first, pile_look, freed, sink, pile_view, to_shown, pile_step, pile_depth, pile}
-use Rattle.tier.specs.Stacked.{Stacked, StaysStacked}
+use Rattle.tier.specs.Pile.{Parts, parts, first, pile_look, freed, sink, sunk, unless_held, pile_view, to_shown, pile_step, pile_depth, pile}
+use Rattle.tier.specs.Stacked.{Stacked, Sinks, StaysStacked}
 use Rattle.tier.specs.Options.{never, is_some_lem, some_of}
 use Rattle.tier.specs.Holdings.{bare-none, bare-held}
 use Rattle.tier.proofs.Options.{not_some}
 use Rattle.tier.proofs.Holds.{SameBlocks, change-same, touch-same}
-use Rattle.tier.specs.PileLaws.{block, both_none, stays, at, Sound, keeps, fu, upper-same, lower-same, away-held}
+use Rattle.tier.specs.PileLaws.{block, both_none, left_out, stays, freed-lawful, at, Sound, keeps, fu, put_next, room, upper-same, lower-same, away-held}
 
 -- no block is in both parts
 abbrev Apart : Parts → Type 0
@@ -159,6 +160,23 @@ stacked p u l e apart = record {
   apart = λ n h q. apart n (is_some_lem (look_of u n) h q);
 }
 
+-- a line that leaves the upper for a put sinks
+sinking : (p : Parts) (ok : Sound p) (n : ℕ) (k : Mark) (s : ℕ) → pile_look p n ≡ None → Sinks (at p) p.upper p.lower n k s
+sinking p ok n k s free = record {
+  sunk = λ g fell.
+      ap (λ q. pile_look q g.block) (put_next p ok n k s free)
+      ∙ ap (λ o. pile_look (parts (after p.upper (put n k s)) (sink p.lower o)) g.block) fell
+      ∙ ap (λ a. first (depth_of p.upper) a (look_of (sink p.lower (Some g)) g.block)) ((ok.0 []).out_gone n k s g (fu p ok n k s free) fell)
+      ∙ ap (first (depth_of p.upper) None) ((freed-lawful p.lower ok.1 g.block []).put_in g.block g.mark g.stamp (room p ok n k s free g fell));
+  nothing = λ e. ap (λ o. unless_held (after p.upper (put n k s)) (sunk p.lower o)) e;
+  leaver = λ x. below x (out_of p.upper n k s) refl;
+}
+  where
+    below : (x : Line) (o : Option Line) → out_of p.upper n k s ≡ o → unless_held (after p.upper (put n k s)) (sunk p.lower o) ≡ Some x
+        → bare (look_of p.lower x.block) ≡ Some (mark_number x.mark, x.stamp)
+    below x None e w = never x w
+    below x (Some g) e w = (away-held p ok n k s free g e x (left_out (after p.upper (put n k s)) (sunk p.lower (Some g)) x w).0).1
+
 -- after some calls a pile is the one of its parts after them
 reached : (p : Parts) (cs : List TierCall) → reach (at p) cs ≡ at (run pile_step p cs)
 reached p [] = refl
@@ -175,6 +193,9 @@ apart-stays u l hu hl apart cs =
       below = end.made.ls;
       made = same;
       stacked = stacked _ _ _ (λ n. ap (λ x. look_of x n) same) (subst Apart is end.apart);
+      sinks = λ n k s free.
+          let P : TierMeaning → Type 0 = λ x. Sinks x (reach u end.made.us) (reach l end.made.ls) n k s in
+          subst P (sym same) (sinking _ (subst Sound is end.sound) n k s (sym (ap (λ x. look_of x n) same) ∙ free));
     }
 
 -- so it is with two tiers that were cleared

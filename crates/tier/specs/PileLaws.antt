@@ -45,7 +45,7 @@ bare-lower d a None e = ap (λ o. bare (first d o None)) e
 bare-lower d a (Some y) e = ap (λ o. bare (first d o (Some y))) e
 
 -- a line that leaves is one that the upper does not hold
-left_out : (u : TierMeaning) (o : Option Line) (x : Line) → unless_held u o ≡ Some x → (o ≡ Some x) × (look_of u x.block ≡ None)
+pub left_out : (u : TierMeaning) (o : Option Line) (x : Line) → unless_held u o ≡ Some x → (o ≡ Some x) × (look_of u x.block ≡ None)
 left_out u None x e = never x e
 left_out u (Some y) x e = go (look_of u y.block) refl e
   where

@@ -1,7 +1,10 @@
 -- What a pile holds, told of its two tiers.
 use Rattle.std.specs.Prelude.{◌≡◌, ℕ, ◌+◌, min, List, Some, None}
-use Rattle.device.specs.Device.{reach}
-use Rattle.tier.specs.Meaning.{TierMeaning, TierCall, Holding, depth_of, held_of}
+use Rattle.parts.specs.declared.mark.Mark.{Mark}
+use Rattle.parts.specs.declared.line.Line.{Line}
+use Rattle.parts.specs.Marks.{mark_number}
+use Rattle.device.specs.Device.{after, reach}
+use Rattle.tier.specs.Meaning.{TierMeaning, TierCall, put, Holding, depth_of, held_of, out_of, bare}
 use Rattle.tier.specs.Pile.{pile}
 
 -- p holds what u holds and, of the rest, what l holds, deeper by u's depth; no block is in both
@@ -11,12 +14,21 @@ pub record Stacked (p u l : TierMeaning) : Type 0 where
   pub neither : (n : ℕ) → held_of u n ≡ None → held_of l n ≡ None → held_of p n ≡ None
   pub apart : (n : ℕ) (h : Holding) → held_of u n ≡ Some h → held_of l n ≡ None
 
--- the pile p is made of the tiers u and l, each as some calls left it, and is stacked of them
+-- a put into p, of u on l: a line that u gives out for it stays in the pile, just below u, and only then a line may leave the pile,
+-- one that l held
+pub record Sinks (p u l : TierMeaning) (n : ℕ) (k : Mark) (s : ℕ) : Type 0 where
+  pub sunk : (g : Line) → out_of u n k s ≡ Some g → held_of (after p (put n k s)) g.block ≡ Some (mark_number g.mark, g.stamp, min 4 (depth_of u + 1))
+  pub nothing : out_of u n k s ≡ None → out_of p n k s ≡ None
+  pub leaver : (x : Line) → out_of p n k s ≡ Some x → bare (held_of l x.block) ≡ Some (mark_number x.mark, x.stamp)
+
+-- the pile p is made of the tiers u and l, each as some calls left it, and is stacked of them; a put of a block that it does not
+-- hold sinks the line that leaves the upper
 pub record MadeOf (p u l : TierMeaning) : Type 0 where
   pub above : List TierCall
   pub below : List TierCall
   pub made : p ≡ pile (reach u above) (reach l below)
   pub stacked : Stacked p (reach u above) (reach l below)
+  pub sinks : (n : ℕ) (k : Mark) (s : ℕ) → held_of p n ≡ None → Sinks p (reach u above) (reach l below) n k s
 
 -- so it is after any list of calls
 abbrev pub StaysStacked : TierMeaning → TierMeaning → TierMeaning → Type 0
