@@ -153,9 +153,8 @@ fn run_pair<R: Row + Drop, M: Memory + Drop, S: Row + Drop>(
 fn run_scenario<R: Row + Drop, M: Memory + Drop>(trial: &mut Trial, row: R, memory: M) -> bool {
     let [text, ..] = &trial.texts;
     let layout = trial.layout.as_mut_slice();
-    simulate(text.bytes(), layout, row, memory, &mut trial.told)
-        .written
-        .is_ok()
+    let (_, written) = simulate(text.bytes(), layout, row, memory, &mut trial.told);
+    written.is_ok()
 }
 
 /// What the simulator tells and leaves.

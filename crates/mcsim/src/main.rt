@@ -2,11 +2,8 @@
 #![tactic(auto)]
 
 use anyhow::anyhow;
-use machine::{BLOCKS, IN_WORDS, two_cores};
-use memory::cell::UNSET;
-use memory::flat::Flat;
-use scenario::layout::{REFERENCES, UNPLACED};
-use simulator::simulate::simulate;
+use machine::IN_WORDS;
+use machine_study::report_scenario;
 use std::env;
 use std::fs::File;
 use std::io::{BufWriter, Write};
@@ -22,12 +19,8 @@ const FORMAT: &str = "docs/SCENARIO.md tells the format of scenarios and reports
 The exit status is 0 whenever a report was written, also that of a fault.";
 
 fn report(rt: &HostRuntime, text: &[u8]) -> anyhow::Result<()> {
-    let mut layout = [UNPLACED; REFERENCES];
-    let mut table = [UNSET; BLOCKS];
-    let row = two_cores(rt.alloc())?;
     let mut out = BufWriter::new(rt.alloc(), rt.stdout())?;
-    let simulated = simulate(text, &mut layout, row, Flat::over(&mut table), &mut out);
-    simulated.written?;
+    report_scenario(rt.alloc(), text, &mut out)?;
     out.flush()?;
     Ok(())
 }

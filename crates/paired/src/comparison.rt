@@ -1,17 +1,20 @@
 //! Two placements under one schedule.
 ghost use Rattle.std.specs.Prelude.{◌≡◌, OnOk, IsOk};
 ghost use Rattle.std.specs.Io.KnownBytes.{Appends};
+ghost use Rattle.scenario.specs.Texts.{single_of};
 ghost use Rattle.report.specs.Lines.{text_of};
 ghost use Rattle.report.specs.Reading.{ReadBack};
 ghost use Rattle.report.specs.declared.paired_lines.Side.TheVariants.{A, B};
-ghost use Rattle.paired.specs.Single.{IsSingle, side_lines, figure_of, pair_lines};
+ghost use Rattle.simulator.specs.Simulation.{IsSimulated};
+ghost use Rattle.paired.specs.Single.{single_study_of, side_lines, figure_of, pair_lines};
 
-use crate::single::{SingleStudy, single};
+use crate::single::single;
 use memory::Memory;
 use report::line::Line;
 use report::paired_lines::Side;
 use row::Row;
 use scenario::fault::FileFault;
+use simulator::simulate::Simulated;
 use std::io;
 use std::io::Write;
 use study::quote::Quote;
@@ -27,8 +30,8 @@ pub struct Placement<'t, R, M> {
 /// What two studies came to, and whether they were told.
 #[derive(Drop)]
 pub struct Comparison<R, M, S, N> {
-    pub a: SingleStudy<R, M>,
-    pub b: SingleStudy<S, N>,
+    pub a: Simulated<R, M, FileFault>,
+    pub b: Simulated<S, N, FileFault>,
     pub written: io::Result<()>,
 }
 
@@ -62,8 +65,8 @@ pub fn compare<R: Row, M: Memory, S: Row, N: Memory, W: Write>(
     schedule: &[u8],
     report: &mut W,
 ) -> Comparison<R, M, S, N>
-    ensures a { IsSingle R.cores M.meaning a.entry.text.now schedule.now a.entry.row a.entry.memory result.a }
-    ensures b { IsSingle S.cores N.meaning b.entry.text.now schedule.now b.entry.row b.entry.memory result.b }
+    ensures a { IsSimulated R.cores M.meaning single_study_of (single_of a.entry.text.now schedule.now) a.entry.row a.entry.memory result.a }
+    ensures b { IsSimulated S.cores N.meaning single_study_of (single_of b.entry.text.now schedule.now) b.entry.row b.entry.memory result.b }
     ensures report { OnOk result.written (Appends (W.contents report.old) (W.contents report.new) (text_of (pair_lines
         (side_lines A a.entry.text.now schedule.now (R.cores a.entry.row) (M.meaning a.entry.memory))
         (side_lines B b.entry.text.now schedule.now (S.cores b.entry.row) (N.meaning b.entry.memory))

@@ -20,9 +20,8 @@ use Rattle.scenario.specs.declared.change.Change.TheVariants.{Weigh, Lay, Make}
 use Rattle.scenario.specs.declared.fault.Fault.{Fault}
 use Rattle.scenario.specs.Changes.{and_then, as_text, step_of, changed, change_of, line_change}
 use Rattle.scenario.specs.Scan.{State, state, start, scan, text_of, changed_by, ended, after_weights}
-use Rattle.scenario.specs.Reading.{read_as, read_of, section_of}
-use Rattle.scenario.specs.declared.reader.Text.{Text}
-use Rattle.scenario.specs.Steps.{made, calls_from, calls_in}
+use Rattle.scenario.specs.Reading.{a_read, read_of, section_of}
+use Rattle.scenario.specs.Steps.{made, calls_from}
 use Rattle.scenario.proofs.Anywhere.{anywhere}
 use Rattle.scenario.proofs.Calls.{calls_first, calls_last}
 
@@ -141,11 +140,11 @@ module _ (first : Section) (table text : List ℕ) (short : length text ≤ 6553
   as_scan : text_of first table text ≡ scan (start first table) 1 (parts 10 text)
   as_scan = grind (arith, nat_tests)
 
-  pub reads_not : (layout : List ℕ) (e : Fault) → scan (start first table) 1 (parts 10 text) ≡ Err e → read_as (Err e) layout ≡ section_of first table text
+  pub reads_not : (e : Fault) → scan (start first table) 1 (parts 10 text) ≡ Err e → Err e ≡ section_of first table text
   unfolding section_of
-  reads_not layout e h = sym (ap (λ r. and_then r (λ st. Ok (read_of st))) (as_scan ∙ h))
+  reads_not e h = sym (ap (λ r. and_then r (λ st. Ok (read_of st))) (as_scan ∙ h))
 
-  pub reads : (t : Text) (layout : List ℕ) (s : Section) → scan (start first table) 1 (parts 10 text) ≡ Ok (state t.prices layout (calls_in layout t.steps) s)
-      → read_as (Ok t) layout ≡ section_of first table text
+  pub reads : (w : Prices) (layout from : List ℕ) (s : Section) → scan (start first table) 1 (parts 10 text) ≡ Ok (state w layout (calls_from layout (parts 10 from)) s)
+      → Ok (a_read w layout (calls_from layout (parts 10 from))) ≡ section_of first table text
   unfolding section_of
-  reads t layout s h = sym (ap (λ r. and_then r (λ st. Ok (read_of st))) (as_scan ∙ h))
+  reads w layout from s h = sym (ap (λ r. and_then r (λ st. Ok (read_of st))) (as_scan ∙ h))

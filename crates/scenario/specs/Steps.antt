@@ -26,8 +26,9 @@ calls_from layout [] = []
 calls_from layout (p ∷ []) = []
 calls_from layout (p ∷ q ∷ ps) = onto (made (line_change layout Steps 1 p)) (calls_from layout (q ∷ ps))
 
-abbrev pub calls_in : List ℕ → StepsOfText → List Call
-calls_in layout t = calls_from layout (parts 10 t.rest.now)
+-- the calls of steps, under the placements that they carry
+abbrev pub calls_in : StepsOfText → List Call
+calls_in t = calls_from t.placements.now (parts 10 t.rest.now)
 
 abbrev pub bytes_left : StepsOfText → ℕ
 bytes_left t = length t.rest.now

@@ -6,4 +6,5 @@ pub mod fault;
 pub mod layout;
 pub mod reader;
 pub mod steps;
+pub mod text;
 pub mod texts;

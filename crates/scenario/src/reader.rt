@@ -2,12 +2,12 @@
 ghost use Rattle.std.specs.Prelude.{◌≡◌, ◌≤◌, length};
 ghost use Rattle.scenario.specs.Changes.{as_text};
 ghost use Rattle.scenario.specs.Scan.{ended, after_weights};
-ghost use Rattle.scenario.specs.Reading.{read_as, section_of, laid};
+ghost use Rattle.scenario.specs.Reading.{read_as, section_of};
 
 use crate::change::{Change, line_change};
 use crate::fault::Fault;
-use crate::layout::{lay, unplace};
-use crate::steps::Steps;
+use crate::layout::{REFERENCES, lay};
+use crate::text::Text;
 use fields::{LINE_FEED, cut};
 use protocol::weights::Prices;
 use records::fault::TextFault;
@@ -15,13 +15,6 @@ use records::keyword::Section;
 
 /// The most bytes of a text.
 pub const MOST_TEXT: usize = 65_536;
-
-/// A text that was read: its weights, and its steps, which stay in it.
-#[derive(Clone, Copy)]
-pub struct Text<'t> {
-    pub prices: Prices,
-    pub steps: Steps<'t>,
-}
 
 // The section after the weights: a schedule has no placements.
 fn after_weights(section: Section) -> Section
@@ -47,25 +40,26 @@ fn ended(rest: &[u8], line: u32, section: Section) -> Result<(), TextFault>
 }
 
 // The lines of a text that is not too long.
-fn lines<'t>(text: &'t [u8], layout: &mut [u32], first: Section) -> Result<Text<'t>, Fault>
+fn lines<'t>(text: &'t [u8], placed: [u32; REFERENCES], first: Section) -> Result<Text<'t>, Fault>
     requires { length text.now ≤ 65536 }
-    ensures { read_as result layout.new ≡ section_of first layout.old text.now }
+    ensures { read_as result ≡ section_of first placed text.now }
 {
     let mut prices = Prices::default();
+    let mut placements = placed;
     let mut section = first;
     let mut line: u32 = 1;
     let mut rest = text;
-    let mut steps = Steps::at(text);
+    let mut steps = text;
     while let Some((bytes, more)) = cut(rest, LINE_FEED) {
-        match line_change(bytes, line, section, layout)? {
+        match line_change(bytes, line, section, &placements)? {
             Change::Weigh(given) => {
                 prices = given;
                 section = after_weights(section);
-                steps = Steps::at(more);
+                steps = more;
             }
             Change::Lay { reference, block } => {
-                lay(layout, reference, block);
-                steps = Steps::at(more);
+                lay(&mut placements, reference, block);
+                steps = more;
             }
             Change::Make(_) => section = Section::Steps,
         }
@@ -73,33 +67,24 @@ fn lines<'t>(text: &'t [u8], layout: &mut [u32], first: Section) -> Result<Text<
         line += 1;
     }
     ended(rest, line, section)?;
-    Ok(Text { prices, steps })
+    Ok(Text {
+        prices,
+        placements,
+        rest: steps,
+    })
 }
 
-// A text that may be too long.
+// Reads a text that begins in this section, where these references are placed already.
 #[tactic(auto, unfolding(crate::specs::Reading::section_of))]
-fn whole<'t>(text: &'t [u8], layout: &mut [u32], first: Section) -> Result<Text<'t>, Fault>
-    ensures { read_as result layout.new ≡ section_of first layout.old text.now }
+pub(crate) fn read<'t>(
+    text: &'t [u8],
+    placed: [u32; REFERENCES],
+    first: Section,
+) -> Result<Text<'t>, Fault>
+    ensures { read_as result ≡ section_of first placed text.now }
 {
     if text.len() > MOST_TEXT {
         return Err(Fault::from(TextFault::TooLong));
     }
-    lines(text, layout, first)
-}
-
-// Reads a text that begins in this section, under a layout in which it places what its lines place. If it has a fault, nothing
-// is placed.
-pub(crate) fn read<'t>(
-    text: &'t [u8],
-    layout: &mut [u32],
-    first: Section,
-) -> Result<Text<'t>, Fault>
-    ensures answer { read_as result layout.new ≡ section_of first layout.old text.now }
-    ensures table { layout.new ≡ laid (length layout.old) (section_of first layout.old text.now) }
-{
-    let answer = whole(text, layout, first);
-    if answer.is_err() {
-        unplace(layout);
-    }
-    answer
+    lines(text, placed, first)
 }

@@ -1,5 +1,5 @@
 -- From the bytes of a scenario to what its study leaves.
-use Rattle.std.specs.Prelude.{◌≡◌, ℕ, List, [], Ok, Err, Result, IfErr, OnOk, length, replicate}
+use Rattle.std.specs.Prelude.{◌≡◌, ℕ, List, [], Ok, Err, Result, IfErr, OnOk}
 use Rattle.memory.specs.Meaning.{MemoryMeaning}
 use Rattle.protocol.specs.declared.call.Call.{Call}
 use Rattle.protocol.specs.declared.refusal.Refusal.{Refusal}
@@ -12,15 +12,10 @@ use Rattle.study.specs.Settling.{quoted, cores_after, memory_after}
 use Rattle.study.specs.Warrant.{Warranted}
 use Rattle.scenario.specs.declared.fault.Fault.{Fault}
 use Rattle.scenario.specs.declared.fault.Fault.TheVariants.{Study}
-use Rattle.scenario.specs.declared.reader.Text.{Text}
 use Rattle.scenario.specs.Changes.{and_then}
-use Rattle.scenario.specs.Reading.{Read, read_as}
+use Rattle.scenario.specs.Reading.{Read}
 use Rattle.scenario.specs.Texts.{table_after}
 use Rattle.simulator.specs.declared.simulate.Simulated.{Simulated}
-
--- a text of the code, read into this layout
-abbrev pub text_read : Text → List ℕ → Result Read Fault
-text_read t layout = read_as (Ok t) layout
 
 abbrev pub as_study : {A : Type 0} → Result A Refusal → Result A Fault
 as_study (Ok r) = Ok r
@@ -39,19 +34,14 @@ abbrev pub prices_in : {E : Type 0} → Result Read E → Prices
 prices_in (Ok t) = t.prices
 prices_in (Err e) = none
 
--- a layout once its study was opened: as it was, or all unplaced
-abbrev pub layout_after : Result RunMeaning Fault → List ℕ → List ℕ
-layout_after (Ok r) layout = layout
-layout_after (Err e) layout = replicate (length layout) 65536
-
 -- the layout table afterwards: the placements of a study that was opened, or nothing placed; one of another length is left
 abbrev pub table_left : Result RunMeaning Fault → List ℕ → Result Read Fault → List ℕ
 table_left o table t = table_after table (and_then o (λ _. t))
 
--- x is what the study of a text that was read comes to on this row and this memory
-pub record IsSimulated {R M : Type 0} (cores : R → List CoreMeaning) (meaning : M → MemoryMeaning) (r : Result Read Fault) (row : R) (memory : M) (x : Simulated R M) : Type 0 where
-  pub outcome : x.outcome ≡ quoted (study_of r (cores row) (meaning memory)) (schedule_of r)
-  pub row_after : cores x.row ≡ cores_after (study_of r (cores row) (meaning memory)) (cores row) (schedule_of r)
-  pub memory_after : meaning x.memory ≡ memory_after (study_of r (cores row) (meaning memory)) (meaning memory) (schedule_of r)
+-- x is what the study that was read comes to on this row and this memory, where `begins` says how it begins or why it does not
+pub record IsSimulated {R M E : Type 0} (cores : R → List CoreMeaning) (meaning : M → MemoryMeaning) (begins : Result Read E → List CoreMeaning → MemoryMeaning → Result RunMeaning E) (r : Result Read E) (row : R) (memory : M) (x : Simulated R M E) : Type 0 where
+  pub outcome : x.outcome ≡ quoted (begins r (cores row) (meaning memory)) (schedule_of r)
+  pub row_after : cores x.row ≡ cores_after (begins r (cores row) (meaning memory)) (cores row) (schedule_of r)
+  pub memory_after : meaning x.memory ≡ memory_after (begins r (cores row) (meaning memory)) (meaning memory) (schedule_of r)
   pub back : IfErr x.outcome (λ _. (x.row ≡ row) × (x.memory ≡ memory))
   pub warrant : OnOk x.outcome (Warranted (cores row) (meaning memory) (prices_in r))

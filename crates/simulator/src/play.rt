@@ -22,17 +22,16 @@ pub(crate) fn play<R: Row, M: Memory, W: Write, T: Telling>(
     telling: &T,
     run: &mut Run<R, M>,
     steps: Steps<'_>,
-    layout: &[u32],
     out: &mut W,
 ) -> io::Result<()>
-    ensures run { run_of R.cores M.meaning run.new ≡ played (run_of R.cores M.meaning run.old) (calls_in layout.now steps.entry) }
-    ensures lines { OnOk result (Appends (W.contents out.old) (W.contents out.new) (text_of (turn_lines (T.form telling.now) 1 (history (run_of R.cores M.meaning run.old) (calls_in layout.now steps.entry))))) }
-    ensures reads_back { ReadBack (turn_lines (T.form telling.now) 1 (history (run_of R.cores M.meaning run.old) (calls_in layout.now steps.entry))) }
+    ensures run { run_of R.cores M.meaning run.new ≡ played (run_of R.cores M.meaning run.old) (calls_in steps.entry) }
+    ensures lines { OnOk result (Appends (W.contents out.old) (W.contents out.new) (text_of (turn_lines (T.form telling.now) 1 (history (run_of R.cores M.meaning run.old) (calls_in steps.entry))))) }
+    ensures reads_back { ReadBack (turn_lines (T.form telling.now) 1 (history (run_of R.cores M.meaning run.old) (calls_in steps.entry))) }
 {
     let mut written = Ok(());
     let mut rest = steps;
     let mut number: u32 = 1;
-    while let Some((call, more)) = rest.first(layout) {
+    while let Some((call, more)) = rest.first() {
         let line = telling.turn(number, &run.take_turn(call));
         written = write(out, written, line);
         rest = more;

@@ -2,4 +2,3 @@ pub mod Requests
 pub mod Played
 pub mod Eight
 pub mod Private
-pub mod Reported

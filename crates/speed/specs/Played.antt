@@ -1,13 +1,11 @@
 -- What a schedule comes to.
-use Rattle.std.specs.Prelude.{◌≡◌, ℕ, List, replicate, Some, None, Ok, Err, Option, Result}
-use Rattle.memory.specs.declared.cell.State.TheVariants.{Stale}
-use Rattle.memory.specs.Meaning.{MemoryMeaning}
-use Rattle.memory.specs.Flat.{flat}
+use Rattle.std.specs.Prelude.{◌≡◌, ℕ, List, Some, None, Ok, Err, Option, Result}
 use Rattle.protocol.specs.declared.call.Call.{Call}
 use Rattle.protocol.specs.declared.refusal.Refusal.{Refusal}
 use Rattle.protocol.specs.declared.weights.Prices.{Prices}
 use Rattle.protocol.specs.Prices.{prices}
 use Rattle.row.specs.Cores.{CoreMeaning}
+use Rattle.machine_study.specs.Reported.{cells}
 use Rattle.study.specs.Opening.{opening}
 use Rattle.study.specs.Settling.{Ending, simulated}
 use Rattle.speed.specs.declared.requests.Tally.{Tally}
@@ -15,10 +13,6 @@ use Rattle.speed.specs.Requests.{tally_in}
 
 abbrev pub weights : Prices
 weights = prices 1 10 20 30 100
-
--- a flat memory over a table of so many cells, which was lent under this name
-abbrev pub cells : ℕ → ℕ → MemoryMeaning
-cells name blocks = flat name (replicate blocks (record { state = Stale; stamp = 0 }))
 
 -- the tally of a study that was opened
 abbrev pub tally_of : Result Ending Refusal → Option Tally

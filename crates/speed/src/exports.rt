@@ -1,11 +1,11 @@
 //! What C calls.
-ghost use Rattle.std.specs.Prelude.{◌≡◌, ◌<◌, ◌≤◌, cond, map, length, take, drop, IfSome};
+ghost use Rattle.std.specs.Prelude.{◌≡◌, ◌<◌, ◌≤◌, [], cond, map, length, take, drop, IfSome, Some};
 ghost use Rattle.std.specs.Bool.{OnTrue, OnFalse};
 ghost use Rattle.machine.specs.Machine.{two_cores};
+ghost use Rattle.machine_study.specs.Reported.{scenario_report, Reported};
 ghost use Rattle.speed.specs.Requests.{call_of};
 ghost use Rattle.speed.specs.Eight.{eight_cores};
 ghost use Rattle.speed.specs.Played.{Played};
-ghost use Rattle.speed.specs.Reported.{Reported};
 
 use crate::eight::eight_cores;
 use crate::play::play;
@@ -54,7 +54,7 @@ pub extern "C" fn speed_play(
 /// bytes it has. A 0 says that the buffer is too short, or that there is no memory.
 #[unsafe(no_mangle)]
 pub extern "C" fn speed_report(heap: Global, text: &[u8], buffer: &mut [u8]) -> usize
-    ensures report { 0 < result → Reported two_cores 16 text.now (take result buffer.new) }
+    ensures report { 0 < result → Reported (scenario_report text.now) (Some []) (Some (take result buffer.new)) }
     ensures rest { drop result buffer.new ≡ drop result buffer.old }
     ensures within { result ≤ length buffer.new }
 {

@@ -4,6 +4,7 @@ ghost use Rattle.scenario.specs.Steps.{made, calls_in, bytes_left};
 
 use crate::change::{Change, line_change};
 use crate::fault::Fault;
+use crate::layout::REFERENCES;
 use crate::steps::Steps;
 use fields::{LINE_FEED, cut};
 use protocol::call::Call;
@@ -20,22 +21,24 @@ fn made(change: Result<Change, Fault>) -> Option<Call>
 }
 
 impl<'t> Steps<'t> {
-    pub(crate) fn at(rest: &'t [u8]) -> Steps<'t>
+    pub(crate) fn at(rest: &'t [u8], placements: &'t [u32; REFERENCES]) -> Steps<'t>
         requires { length rest.now ≤ 65536 }
-        ensures { result.rest.now ≡ rest.now }
+        ensures rest { result.rest.now ≡ rest.now }
+        ensures placements { result.placements.now ≡ placements.now }
     {
-        Steps { rest }
+        Steps { rest, placements }
     }
 
     /// The next call, and the steps after it; none at the end.
     #[tactic(auto, using(crate::proofs::Calls::calls_first, crate::proofs::Calls::calls_end, crate::proofs::Calls::calls_last))]
-    pub fn first(self, layout: &[u32]) -> Option<(Call, Steps<'t>)>
-        ensures next { MatchOption result (calls_in layout.now self.entry ≡ []) (λ x. calls_in layout.now self.entry ≡ x.0 ∷ calls_in layout.now x.1) }
+    pub fn first(self) -> Option<(Call, Steps<'t>)>
+        ensures next { MatchOption result (calls_in self.entry ≡ []) (λ x. calls_in self.entry ≡ x.0 ∷ calls_in x.1) }
         ensures shorter { IfSome result (λ x. bytes_left x.1 < bytes_left self.entry) }
     {
-        let (bytes, more) = cut(self.rest, LINE_FEED)?;
+        let Steps { rest, placements } = self;
+        let (bytes, more) = cut(rest, LINE_FEED)?;
         // the number of the line tells where a fault is, and a line of a text that was read has none
-        let call = made(line_change(bytes, 1, Section::Steps, layout))?;
-        Some((call, Steps { rest: more }))
+        let call = made(line_change(bytes, 1, Section::Steps, placements))?;
+        Some((call, Steps::at(more, placements)))
     }
 }

@@ -11,8 +11,8 @@ abbrev pub invariant-loop-call : goal.invariant-loop-call
 invariant-loop-call g l =
     let r = run_of g.R.Row.cores g.M.Memory.meaning l.run in
     let r₀ = run_of g.R.Row.cores g.M.Memory.meaning l.initial.run in
-    let ks = calls_in l.layout l.rest in
-    let ks₀ = calls_in l.layout l.steps in
+    let ks = calls_in l.rest in
+    let ks₀ = calls_in l.steps in
     (l.number + bytes_left l.rest ≤ 65538)
     × (played r ks ≡ played r₀ ks₀)
     × (t : Told (g.T.Telling.form l.telling) r r₀ ks ks₀ l.number)
