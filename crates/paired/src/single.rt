@@ -4,6 +4,8 @@ ghost use Rattle.std.specs.Io.KnownBytes.{Appends};
 ghost use Rattle.scenario.specs.Texts.{single_of};
 ghost use Rattle.report.specs.Lines.{text_of};
 ghost use Rattle.report.specs.Reading.{ReadBack};
+ghost use Rattle.round_trip.specs.Exactly.{PairReadExactly};
+ghost use Rattle.round_trip.specs.FirstFault.{PairFirstFaultDecides};
 ghost use Rattle.simulator.specs.Simulation.{IsSimulated};
 ghost use Rattle.paired.specs.Single.{single_study_of, side_lines};
 
@@ -19,7 +21,7 @@ use std::io::Write;
 
 /// Reads a placement and a schedule, plays the study on this row and this memory, and tells it as one side of a pair; beside the
 /// study, whether that was written. It is played to its end even where it cannot be written.
-#[tactic(auto, using(crate::proofs::Telling::side_told, crate::proofs::Telling::side_reads))]
+#[tactic(auto, using(crate::proofs::Telling::side_told, crate::proofs::Telling::side_reads, round_trip::proofs::Exactly::pair_read_exactly, round_trip::proofs::FirstFaults::pair_decides))]
 pub fn single<R: Row, M: Memory, W: Write>(
     side: Side,
     placement: &[u8],
@@ -31,6 +33,8 @@ pub fn single<R: Row, M: Memory, W: Write>(
     ensures study { IsSimulated R.cores M.meaning single_study_of (single_of placement.now schedule.now) row memory result.0 }
     ensures report { OnOk result.1 (Appends (W.contents report.old) (W.contents report.new) (text_of (side_lines side placement.now schedule.now (R.cores row) (M.meaning memory)))) }
     ensures reads_back { ReadBack (side_lines side placement.now schedule.now (R.cores row) (M.meaning memory)) }
+    ensures read_exactly { PairReadExactly placement.now schedule.now }
+    ensures first_fault { PairFirstFaultDecides placement.now schedule.now }
 {
     match texts::single(placement, schedule) {
         Ok(read) => {

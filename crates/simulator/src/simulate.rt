@@ -5,6 +5,8 @@ ghost use Rattle.scenario.specs.Reading.{read_in};
 ghost use Rattle.scenario.specs.Texts.{scenario_of};
 ghost use Rattle.report.specs.Lines.{text_of};
 ghost use Rattle.report.specs.Reading.{ReadBack};
+ghost use Rattle.round_trip.specs.Exactly.{ReadExactly};
+ghost use Rattle.round_trip.specs.FirstFault.{FirstFaultDecides};
 ghost use Rattle.simulator.specs.Report.{in_full, report_lines};
 ghost use Rattle.simulator.specs.Simulation.{study_of, table_left, IsSimulated};
 
@@ -70,7 +72,7 @@ pub fn simulate_text<R: Row, M: Memory, W: Write, T: Telling>(
 /// Reads a scenario, plays its study on this row and this memory, and writes the report; beside the study, whether that was
 /// written. A scenario with a fault leaves the layout unplaced (one of another length as it was), and touches neither row nor
 /// memory. All steps are played even where the report cannot be written.
-#[tactic(auto, using(crate::proofs::Playing::unread_told, crate::proofs::Playing::unread_reads))]
+#[tactic(auto, using(crate::proofs::Playing::unread_told, crate::proofs::Playing::unread_reads, round_trip::proofs::Exactly::read_exactly, round_trip::proofs::FirstFaults::decides))]
 pub fn simulate<R: Row, M: Memory, W: Write>(
     text: &[u8],
     layout: &mut [u32],
@@ -82,6 +84,8 @@ pub fn simulate<R: Row, M: Memory, W: Write>(
     ensures table { layout.new ≡ table_left (study_of (scenario_of layout.old text.now) (R.cores row) (M.meaning memory)) layout.old (scenario_of layout.old text.now) }
     ensures report { OnOk result.1 (Appends (W.contents report.old) (W.contents report.new) (text_of (report_lines in_full (scenario_of layout.old text.now) (R.cores row) (M.meaning memory)))) }
     ensures reads_back { ReadBack (report_lines in_full (scenario_of layout.old text.now) (R.cores row) (M.meaning memory)) }
+    ensures read_exactly { ReadExactly layout.old text.now }
+    ensures first_fault { FirstFaultDecides layout.old text.now }
 {
     match scenario(text, layout) {
         Ok(read) => {
