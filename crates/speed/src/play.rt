@@ -35,6 +35,7 @@ fn make<R: Row, M: Memory>(run: &mut Run<R, M>, requests: &[Request])
 }
 
 // What the calls that are asked for come to in a study of this row and this memory; none where it is not opened.
+#[tactic(auto, unfolding(protocol::specs::Prices::is_dear))]
 fn settle<R: Row + Drop, M: Memory + Drop>(row: R, memory: M, requests: &[Request]) -> Option<Tally>
     ensures { result ≡ tally_of (simulated (opening (R.Row.cores row) (M.Memory.meaning memory) weights) (map call_of requests.now)) }
 {
