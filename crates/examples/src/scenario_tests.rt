@@ -49,9 +49,9 @@ fn outcome<R: Row + Drop, M: Memory + Drop>(
     memory: M,
     report: &mut Vec<u8>,
 ) -> io::Result<Result<Quote, Fault>> {
-    let simulated = simulate(TEXT.as_bytes(), layout, row, memory, report);
-    simulated.written?;
-    Ok(simulated.outcome)
+    let (study, written) = simulate(TEXT.as_bytes(), layout, row, memory, report);
+    written?;
+    Ok(study.outcome)
 }
 
 fn tells<R: Row + Drop>(rt: &impl Abort, heap: Global, row: R) -> io::Result<()> {
