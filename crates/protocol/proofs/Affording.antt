@@ -1,21 +1,16 @@
 -- What weights that are taken cost at most.
-use Rattle.std.specs.Prelude.{◌≡◌, ℕ, ◌≤◌, Bool, true, false, cond, ◌||◌}
-use Rattle.std.proofs.Common.{eqb, ltb, arith, ltb-false}
+use Rattle.std.specs.Prelude.{◌≡◌, ℕ, ◌≤◌, Bool, true, false, cond, ◌||◌, Ok, Err}
+use Rattle.std.proofs.Common.{eqb, ltb, sym, refl, ◌∙◌, arith, ltb-true, ltb-false}
+use mathlib.Core.Bool.{false≢true}
 use Rattle.std.proofs.lemmas.Bool.{or_parts}
 use Rattle.protocol.specs.declared.weights.Movement.{Movement}
 use Rattle.protocol.specs.declared.weights.Movement.TheVariants.{Still, FromLevel, Memory}
 use Rattle.protocol.specs.declared.weights.Prices.{Prices}
-use Rattle.protocol.specs.Prices.{is_dear, Affordable, price}
+use Rattle.protocol.specs.declared.refusal.Refusal.TheVariants.{WeightTooHigh}
+use Rattle.protocol.specs.Prices.{is_dear, weighing, Affordable, Fair, WeighingTold, price}
 
 -- the five weights one by one
-record Within (w : Prices) : Type 0 where
-  w1 : w.w1 ≤ 1000
-  w2 : w.w2 ≤ 1000
-  w3 : w.w3 ≤ 1000
-  w4 : w.w4 ≤ 1000
-  wm : w.wm ≤ 1000
-
-within : (w : Prices) → Affordable w → Within w
+within : (w : Prices) → Affordable w → Fair w
 unfolding is_dear
 within w h =
     let p1 = or_parts (ltb 1000 w.w1) _ h in
@@ -39,3 +34,22 @@ priced w h (FromLevel l) = let x = within w h in either (eqb l 1) _ _ x.w1 (eith
     either : (b : Bool) (i j : ℕ) → i ≤ 1000 → j ≤ 1000 → cond b i j ≤ 1000
     either true i j p q = p
     either false i j p q = q
+
+-- what weighing says is so: weights within the limit are not dear
+low : (x : ℕ) → x ≤ 1000 → ltb 1000 x ≡ false
+low x h = go (ltb 1000 x) refl
+  where
+    go : (b : Bool) → ltb 1000 x ≡ b → ltb 1000 x ≡ false
+    go false e = e
+    go true e = let z = ltb-true 1000 x e in absurd (omega (arith, z, h))
+
+fair : (w : Prices) → Fair w → is_dear w ≡ false
+unfolding is_dear
+fair w h = rw (low w.w1 h.w1, low w.w2 h.w2, low w.w3 h.w3, low w.w4 h.w4, low w.wm h.wm) refl
+
+pub weighing_told : (w : Prices) → WeighingTold w (weighing w)
+weighing_told w = go (is_dear w) refl
+  where
+    go : (b : Bool) → is_dear w ≡ b → WeighingTold w (cond b (Err WeightTooHigh) (Ok w))
+    go true e = (λ h. false≢true (sym (fair w h) ∙ e), refl)
+    go false e = (within w e, refl)

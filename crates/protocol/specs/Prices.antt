@@ -1,5 +1,5 @@
 -- What each movement of a block costs.
-use Rattle.std.specs.Prelude.{◌≡◌, ℕ, Bool, false, cond, ◌||◌, Ok, Err, Result, ◌==◌, nat_lt}
+use Rattle.std.specs.Prelude.{◌≡◌, ℕ, ◌≤◌, Bool, false, cond, ◌||◌, Ok, Err, Result, ◌==◌, nat_lt}
 use Rattle.protocol.specs.declared.refusal.Refusal.{Refusal}
 use Rattle.protocol.specs.declared.refusal.Refusal.TheVariants.{WeightTooHigh}
 use Rattle.protocol.specs.declared.weights.Movement.{Movement}
@@ -37,3 +37,16 @@ weighing w = cond (is_dear w) (Err WeightTooHigh) (Ok w)
 -- weights that weighing takes: none is above it
 abbrev pub Affordable : Prices → Type 0
 Affordable w = is_dear w ≡ false
+
+-- no weight is above 1,000
+pub record Fair (w : Prices) : Type 0 where
+  pub w1 : w.w1 ≤ 1000
+  pub w2 : w.w2 ≤ 1000
+  pub w3 : w.w3 ≤ 1000
+  pub w4 : w.w4 ≤ 1000
+  pub wm : w.wm ≤ 1000
+
+-- weights are taken, as they are, just where none is above 1,000, and refused by 3 where one is
+abbrev pub WeighingTold : Prices → Result Prices Refusal → Type 0
+WeighingTold w (Ok p) = Fair w × (p ≡ w)
+WeighingTold w (Err e) = (Fair w → ⊥) × (e ≡ WeightTooHigh)

@@ -10,12 +10,14 @@ use Rattle.protocol.specs.declared.call.Call.{Call}
 use Rattle.protocol.specs.declared.call.Call.TheVariants.{Read, Write, Fetch, Resume, Flush, Commit}
 use Rattle.protocol.specs.declared.refusal.Refusal.{Refusal}
 use Rattle.protocol.specs.declared.refusal.Refusal.TheVariants.{TooManyCores, NoBlocks, TooManySteps, NoSuchCore, NoSuchBlock, WrongState, StaleBlock, NotOwed}
+use Rattle.protocol.specs.declared.weights.Prices.{Prices}
 use Rattle.protocol.specs.Accesses.{block_of}
 use Rattle.protocol.specs.Calls.{core_of}
 use Rattle.protocol.specs.Refusals.{refusal_number}
 use Rattle.row.specs.Cores.{CoreMeaning, state_at}
 use Rattle.study.specs.Run.{RunMeaning}
 use Rattle.study.specs.Step.{valid}
+use Rattle.study.specs.Opening.{opened}
 use Rattle.study.specs.Coherence.{Holds}
 
 -- the memory has the block that the call names, if it names one
@@ -86,7 +88,7 @@ pub record Unopened (cs : List CoreMeaning) (m : MemoryMeaning) (e : Refusal) : 
   pub no : OpeningYes e cs m → ⊥
   pub before : (d : Refusal) → refusal_number d < refusal_number e → OpeningYes d cs m
 
--- it is opened where every question is answered by yes
-abbrev pub OpeningTold : List CoreMeaning → MemoryMeaning → Result RunMeaning Refusal → Type 0
-OpeningTold cs m (Ok r) = (e : Refusal) → OpeningYes e cs m
-OpeningTold cs m (Err e) = Unopened cs m e
+-- where every question is answered by yes it is opened, with these weights
+abbrev pub OpeningTold : List CoreMeaning → MemoryMeaning → Prices → Result RunMeaning Refusal → Type 0
+OpeningTold cs m w (Ok r) = ((e : Refusal) → OpeningYes e cs m) × (r ≡ opened cs m w)
+OpeningTold cs m w (Err e) = Unopened cs m e

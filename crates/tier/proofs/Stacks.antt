@@ -10,7 +10,7 @@ use Rattle.parts.specs.declared.line.Line.{Line}
 use Rattle.parts.specs.Marks.{mark_number}
 use Rattle.tier.specs.Meaning.{TierMeaning, TierCall, put, take, change, touch, clear, Holding, depth_of, look_of, out_of, if_held, bare, Lawful}
 use Rattle.tier.specs.Pile.{Parts, parts, first, pile_look, freed, sink, sunk, unless_held, pile_view, to_shown, pile_step, pile_depth, pile}
-use Rattle.tier.specs.Stacked.{Stacked, Sinks, StaysStacked}
+use Rattle.tier.specs.Stacked.{Stacked, Sinks, ToOnePart, StaysStacked}
 use Rattle.tier.specs.Options.{never, is_some_lem, some_of}
 use Rattle.tier.specs.Holdings.{bare-none, bare-held}
 use Rattle.tier.proofs.Options.{not_some}
@@ -152,8 +152,9 @@ good-run u l (c ∷ cs) p h =
     (record { sound = keeps p h.sound c; apart = apart-step p h.sound h.apart c; made = made-step u l p c h.made })
 
 -- what shows as the parts u and l do is stacked of them
-stacked : (p u l : TierMeaning) → ((n : ℕ) → look_of p n ≡ pile_look (parts u l) n) → Apart (parts u l) → Stacked p u l
-stacked p u l e apart = record {
+stacked : (p u l : TierMeaning) → depth_of p ≡ pile_depth (parts u l) → ((n : ℕ) → look_of p n ≡ pile_look (parts u l) n) → Apart (parts u l) → Stacked p u l
+stacked p u l d e apart = record {
+  depth = d;
   upper = λ n h q. e n ∙ ap (λ o. first (depth_of u) o (look_of l n)) q;
   lower = λ n h q r. e n ∙ ap (λ o. first (depth_of u) o (look_of l n)) q ∙ ap (first (depth_of u) None) r;
   neither = λ n q r. e n ∙ ap (λ o. first (depth_of u) o (look_of l n)) q ∙ ap (first (depth_of u) None) r;
@@ -177,6 +178,16 @@ sinking p ok n k s free = record {
     below x None e w = never x w
     below x (Some g) e w = (away-held p ok n k s free g e x (left_out (after p.upper (put n k s)) (sunk p.lower (Some g)) x w).0).1
 
+-- a call that goes to the part which shows the block
+to_one : (p u l : TierMeaning) (n : ℕ) (c : TierCall) → p ≡ pile u l → ((q : Parts) → pile_step q c ≡ to_shown q n c) → ToOnePart p u l n c
+to_one p u l n c same shown = record {
+  above = λ h e. next ∙ ap (λ o. at (if_held o (parts (after u c) l) (parts u (after l c)))) e;
+  below = λ e. next ∙ ap (λ o. at (if_held o (parts (after u c) l) (parts u (after l c)))) e;
+}
+  where
+    next : after p c ≡ at (to_shown (parts u l) n c)
+    next = ap (λ x. after x c) same ∙ sym (device-after pile_depth pile_view pile_step stays (parts u l) c) ∙ ap at (shown (parts u l))
+
 -- after some calls a pile is the one of its parts after them
 reached : (p : Parts) (cs : List TierCall) → reach (at p) cs ≡ at (run pile_step p cs)
 reached p [] = refl
@@ -192,10 +203,12 @@ apart-stays u l hu hl apart cs =
       above = end.made.us;
       below = end.made.ls;
       made = same;
-      stacked = stacked _ _ _ (λ n. ap (λ x. look_of x n) same) (subst Apart is end.apart);
+      stacked = stacked _ _ _ (ap depth_of same) (λ n. ap (λ x. look_of x n) same) (subst Apart is end.apart);
       sinks = λ n k s free.
           let P : TierMeaning → Type 0 = λ x. Sinks x (reach u end.made.us) (reach l end.made.ls) n k s in
           subst P (sym same) (sinking _ (subst Sound is end.sound) n k s (sym (ap (λ x. look_of x n) same) ∙ free));
+      changes = λ n k s. to_one _ (reach u end.made.us) (reach l end.made.ls) n (change n k s) same (λ q. refl);
+      touches = λ n. to_one _ (reach u end.made.us) (reach l end.made.ls) n (touch n) same (λ q. refl);
     }
 
 -- so it is with two tiers that were cleared

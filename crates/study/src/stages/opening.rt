@@ -1,7 +1,7 @@
 //! How a study begins: a draft is made, weighed and opened.
 ghost use Rattle.std.specs.Prelude.{◌≡◌, IfErr, OnOk};
 ghost use Rattle.memory.specs.Meaning.{size_of};
-ghost use Rattle.protocol.specs.Prices.{none, weighing};
+ghost use Rattle.protocol.specs.Prices.{none, weighing, WeighingTold};
 ghost use Rattle.protocol.specs.Weighing.{prices_of};
 ghost use Rattle.study.specs.Opening.{zeroed, opening};
 ghost use Rattle.study.specs.Questions.{OpeningTold};
@@ -43,11 +43,13 @@ impl<R: Row, M: Memory> Draft<R, M> {
     }
 
     /// Sets the weights, or none of them if one is above 1,000.
+    #[tactic(auto, using(protocol::proofs::Affording::weighing_told))]
     pub fn weigh(&mut self, prices: Prices) -> Result<(), Refusal>
         ensures row { self.new.row ≡ self.old.row }
         ensures memory { self.new.memory ≡ self.old.memory }
         ensures weights { prices_of self.new.weights ≡ weighed_as (weighing prices) (prices_of self.old.weights) }
         ensures answer { result ≡ answer_of (weighing prices) }
+        ensures asked { WeighingTold prices (weighing prices) }
     {
         self.weights = Weights::try_from(prices)?;
         Ok(())
@@ -57,7 +59,7 @@ impl<R: Row, M: Memory> Draft<R, M> {
     /// warranted, whatever its calls. A draft that is refused comes back whole, with nothing touched.
     pub fn open(self) -> Result<Run<R, M>, RefusedDraft<R, M>>
         ensures run { opened_as R.cores M.meaning result ≡ opening (R.cores self.row) (M.meaning self.memory) (prices_of self.weights) }
-        ensures asked { OpeningTold (R.cores self.row) (M.meaning self.memory) (opened_as R.cores M.meaning result) }
+        ensures asked { OpeningTold (R.cores self.row) (M.meaning self.memory) (prices_of self.weights) (opened_as R.cores M.meaning result) }
         ensures back { IfErr result (λ e. e.draft ≡ self) }
         ensures warrant { OnOk result (Warranted (R.cores self.row) (M.meaning self.memory) (prices_of self.weights)) }
     {

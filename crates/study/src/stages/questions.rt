@@ -1,7 +1,7 @@
 //! What a run is asked, which alters nothing.
 ghost use Rattle.std.specs.Prelude.{◌≡◌};
 ghost use Rattle.row.specs.Cores.{state_at};
-ghost use Rattle.study.specs.Step.{fetchable, owed};
+ghost use Rattle.study.specs.Step.{fetchable_in, fetchable, owed};
 ghost use Rattle.study.specs.Foretold.{FetchForetold, FlushForetold};
 ghost use Rattle.study.specs.Stages.{run_of};
 
@@ -29,7 +29,15 @@ impl<R: Row, M: Memory> Run<R, M> {
         ensures stamp { result ≡ fetchable (run_of R.cores M.meaning self.now) core }
         ensures law { FetchForetold (run_of R.cores M.meaning self.now) core }
     {
-        match self.state(core) {
+        self.fetchable_in(self.state(core))
+    }
+
+    // The same of a core in this state: what a step asks, which knows the state.
+    #[inline(always)]
+    pub(crate) fn fetchable_in(&self, state: CoreState) -> Option<u32>
+        ensures { result ≡ fetchable_in (M.meaning self.now.memory) state }
+    {
+        match state {
             CoreState::Waiting(access) => valid(&self.memory, access.block()),
             CoreState::Ready | CoreState::Due(_) => None,
         }

@@ -11,7 +11,7 @@ ghost use Rattle.study.specs.Effects.{Does};
 use crate::counts::MOST_STEPS;
 use crate::effect::{Effect, Performed};
 use crate::stages::Run;
-use crate::transfers::{claim, leave, store, valid};
+use crate::transfers::{claim, leave, store};
 use memory::Memory;
 use moves::modified_stamp;
 use parts::line::Line;
@@ -123,7 +123,9 @@ impl<R: Row, M: Memory> Run<R, M> {
     fn fetch(&mut self, core: u16, access: Access) -> Result<Effect, Refusal>
         ensures { Does R.cores M.meaning self.old self.new result (fetch (run_of R.cores M.meaning self.old) core access) }
     {
-        let stamp = valid(&self.memory, access.block()).ok_or(Refusal::StaleBlock)?;
+        let stamp = self
+            .fetchable_in(CoreState::Waiting(access))
+            .ok_or(Refusal::StaleBlock)?;
         Ok(self.bring(core, access, stamp))
     }
 
