@@ -44,7 +44,8 @@ impl<T> BuildError<T> {
         }
     }
 
-    /// The tier that was made all the same, if there was memory for it.
+    /// The tier that was made all the same, if there was memory for it. It is for sizes that are known to be in range: of others it
+    /// answers the tier of one line, and nothing is left of refusal 12.
     pub fn into_tier(self) -> Result<T, AllocError>
     where
         T: Drop,

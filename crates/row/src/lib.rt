@@ -35,7 +35,7 @@ pub trait Row {
     fn turn(&mut self, core: u16, state: CoreState)
         ensures { cores self.new ≡ turned (cores self.old) core state };
 
-    /// What a core holds of a block: mark, stamp and level.
+    /// What a core's tier shows of a block: mark, stamp and level.
     fn look(&self, core: u16, block: u16) -> Option<(u32, u32, u32)>
         ensures { result ≡ look_of (tier_at (cores self.now) core) block };
 

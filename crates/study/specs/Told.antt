@@ -46,6 +46,7 @@ abbrev pub Keeps : ℕ → ℕ → RunMeaning → RunMeaning → Type 0
 Keeps c n r r' = (copy_of r'.cores c n ≡ copy_of r.cores c n) × (valid r'.memory n ≡ valid r.memory n)
 
 -- ---- what tiers and memory are told
+-- (nothing of this is taken from the definition of a step, so the law does not lean on what it judges)
 
 -- the tier t when it has served block n, held with this mark and stamp at level l: at level 1 it is told that the block was used,
 -- and from deeper the block is taken and put again
