@@ -9,11 +9,12 @@ use Rattle.parts.specs.declared.mark.Mark.{Mark}
 use Rattle.parts.specs.declared.line.Line.{Line}
 use Rattle.parts.specs.Lines.{shown_of}
 use Rattle.tier.specs.Meaning.{TierMeaning, TierCall, put, take, change, touch, clear, Holding, if_held, look_of, out_of, Lawful}
+use Rattle.tier.specs.OneLevel.{OneLevel}
 use Rattle.ranks.specs.Ranks.{Ranks, find, ranked_step, ranked}
 use Rattle.ranked.specs.Ages.{uses, last_use, LeavesWhenFull, OldestLeaves}
 use Rattle.ranked.specs.RankedLaws.{Sound, keeps as ranked-keeps, ranked-lawful, look_none}
 use Rattle.ranked.proofs.Full.{full_set}
-use Rattle.ranked.proofs.Ages.{Rises, rises-later, rises-other, rises-step, oldest-first, ousted-oldest, found_held}
+use Rattle.ranked.proofs.Ages.{Rises, rises-later, rises-other, rises-step, oldest-first, ousted-oldest, found_held, at_one}
 use Rattle.tier.specs.Options.{never, some_of}
 use Rattle.tier.proofs.Options.{not_some}
 use Rattle.assoc.specs.Sets.{Sets, lru, nth, called, index, sets_step, set_associative, empty, Placed}
@@ -160,9 +161,17 @@ module _ (sets ways : ℕ) (ms : Sets) (f : ℕ → ℕ) (t : ℕ) (h : Aged set
       let r = h.rows (index ms n) (within ms h.good n) in
       full_set sets ways whole n r.lines some r.sound (set_held n) (λ k s. ap (λ m. out_of m n k s) r.is)
 
-full_run : (sets ways : ℕ) (cs : List TierCall) (ms : Sets) (f : ℕ → ℕ) (t : ℕ) → Aged sets ways ms f t → 1 ≤ ways → (n : ℕ) → LeavesWhenFull sets ways (reach (set_associative ms) cs) n
-full_run sets ways [] ms f t h some n = full_now sets ways ms f t h n some
-full_run sets ways (c ∷ cs) ms f t h some n = full_run sets ways cs (sets_step ms c) _ (suc t) (aged_step sets ways ms f t h c) some n
+  one_now : OneLevel whole
+  one_now = record {
+    depth = refl;
+    level = λ n x e. let r = h.rows (index ms n) (within ms h.good n) in (at_one true ways r.lines).level n x (sym (ap (λ m. look_of m n) r.is) ∙ e);
+  }
+
+-- what holds of aged sets holds after any list of calls
+aged_run : (sets ways : ℕ) (P : TierMeaning → Type 0) → ((ms : Sets) (f : ℕ → ℕ) (t : ℕ) → Aged sets ways ms f t → P (set_associative ms))
+    → (cs : List TierCall) (ms : Sets) (f : ℕ → ℕ) (t : ℕ) → Aged sets ways ms f t → P (reach (set_associative ms) cs)
+aged_run sets ways P now [] ms f t h = now ms f t h
+aged_run sets ways P now (c ∷ cs) ms f t h = aged_run sets ways P now cs (sets_step ms c) _ (suc t) (aged_step sets ways ms f t h c)
 
 last_first : (sets ways : ℕ) (cs : List TierCall) (ms : Sets) (f : ℕ → ℕ) (t : ℕ) → Aged sets ways ms f t → (n : ℕ) (k : Mark) (s : ℕ) (g : Line)
     → out_of (reach (set_associative ms) cs) n k s ≡ Some g → (b : ℕ) → is_some (look_of (reach (set_associative ms) cs) b) ≡ true → b % sets ≡ n % sets → (b ≡ g.block → ⊥)
@@ -217,7 +226,8 @@ oldest_leaves sets ways some more =
       rows = λ i lt. record { lines = []; is = empty-nth sets ways i (subst (λ (j : ℕ). i < j) len lt); sound = refl; rises = omega arith };
     } in
     record {
-      when_full = λ cs n free. full_run sets ways cs (empty sets ways) (λ _. 0) 1 start more n;
+      one_level = λ cs. aged_run sets ways OneLevel (one_now sets ways) cs (empty sets ways) (λ _. 0) 1 start;
+      when_full = λ cs n free. aged_run sets ways (λ m. LeavesWhenFull sets ways m n) (λ ms f t h. full_now sets ways ms f t h n more) cs (empty sets ways) (λ _. 0) 1 start;
       of_set = λ cs n k s g free o. of_set sets ways cs (empty sets ways) good len n k s g free o;
       longest = λ cs n k s g free o b held e ne. last_first sets ways cs (empty sets ways) (λ _. 0) 1 start n k s g o b held e ne;
     }

@@ -26,6 +26,7 @@ module _ (lines : ℕ) (ls : Lines) (ok : Sound lines ls) where
 
   mapped_so : DirectMapped lines (direct ls)
   mapped_so = record {
+    one_level = record { depth = refl; level = λ n h e. ap (λ (x : Holding). x.2) (sym (shown-own (at ls n) n h e).3) };
     alone = λ a b ha hb e.
         let x = line_of a ha in
         let y = line_of b hb in

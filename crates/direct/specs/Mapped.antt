@@ -5,8 +5,10 @@ use Rattle.device.specs.Device.{after}
 use Rattle.parts.specs.declared.mark.Mark.{Mark}
 use Rattle.parts.specs.declared.line.Line.{Line}
 use Rattle.tier.specs.Meaning.{TierMeaning, touch, held_of, out_of}
+use Rattle.tier.specs.OneLevel.{OneLevel}
 
 pub record DirectMapped (lines : ℕ) (m : TierMeaning) : Type 0 where
+  pub one_level : OneLevel m
   -- a line holds one block
   pub alone : (a b : ℕ) → is_some (held_of m a) ≡ true → is_some (held_of m b) ≡ true → a % lines ≡ b % lines → a ≡ b
   -- a put gives out the block that its line holds, and nothing if that is free

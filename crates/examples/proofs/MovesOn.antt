@@ -10,7 +10,7 @@ use Rattle.parts.specs.Lines.{shown_of}
 use Rattle.tier.specs.Meaning.{TierCall, put, take, change, touch, clear, Holding, line, if_held}
 use Rattle.tier.specs.Options.{never, none-some, is_some_lem, some_of}
 use Rattle.examples.specs.FreeRunning.{TwoLines, two_lines, shows, look, takes_second, leaver, placed, free_view, free_step, free_running, cleared, Apart}
-use Rattle.examples.specs.FreeRunningLaws.{shows_own, has, instead-block, line-block, Sound, keeps}
+use Rattle.examples.specs.FreeRunningLaws.{shows_own, has, instead-block, line-block, Sound, keeps, low}
 use Rattle.examples.specs.MovesOn.{MovesOn}
 
 abbrev block : Line → ℕ
@@ -139,6 +139,7 @@ pub moves-on : Always MovesOn (free_running cleared)
 moves-on =
     device_always (λ _. 1) free_view free_step (λ s c. refl) MovesOn Sound (λ l c ok. keeps l ok c)
     (λ l ok. record {
+      one_level = record { depth = refl; level = λ n h e. (low l ok n h e).1 };
       room = λ n k s b h. room l.first l.second l.second_leaves ok b h;
       full = λ n k s a b. full l a b;
       moves = λ c n k s a b. moves l c a b;

@@ -111,7 +111,7 @@ module _ (l : TwoLines) (ok : Sound l) where
   abbrev b : Option Line
   b = l.second
 
-  low : (n : ℕ) (h : Holding) → look l n ≡ Some h → (h.0 ≤ 1) × (h.2 ≡ 1)
+  pub low : (n : ℕ) (h : Holding) → look l n ≡ Some h → (h.0 ≤ 1) × (h.2 ≡ 1)
   low n h e = go (shows a n) refl e
     where
       go : (x : Option Holding) → shows a n ≡ x → option_or x (shows b n) ≡ Some h → (h.0 ≤ 1) × (h.2 ≡ 1)

@@ -1,9 +1,9 @@
--- The laws of a tier speak of what is shown alone. So a kind whose choice of what leaves moves on with every call is a tier like any
+-- The laws of a tier speak of what is held alone. So a kind whose choice of what leaves moves on with every call is a tier like any
 -- other: it is lawful, it piles, and what is warranted of every study is warranted over it.
 use Rattle.std.specs.Prelude.{◌≡◌, ◌≢◌, ℕ, List, [], ◌∷◌, Some}
 use Rattle.device.specs.Device.{after, reach}
 use Rattle.parts.specs.declared.mark.Mark.TheVariants.{Shared}
-use Rattle.tier.specs.Meaning.{TierMeaning, TierCall, take, line, look_of, Lawful as LawfulTier}
+use Rattle.tier.specs.Meaning.{TierMeaning, TierCall, take, line, held_of, Lawful as LawfulTier}
 use Rattle.tier.specs.Pile.{pile}
 use Rattle.memory.specs.declared.cell.Cell.{Cell}
 use Rattle.memory.specs.Flat.{flat}
@@ -27,7 +27,7 @@ full = puts 0 ∷ puts 1 ∷ []
 
 -- the call alters nothing that m holds
 abbrev pub SameHeld : TierMeaning → TierCall → Type 0
-SameHeld m c = (n : ℕ) → look_of (after m c) n ≡ look_of m n
+SameHeld m c = (n : ℕ) → held_of (after m c) n ≡ held_of m n
 
 pub record FreeRuns : Type 0 where
   -- it is a tier, and so is it on any lawful tier, and any lawful tier on it

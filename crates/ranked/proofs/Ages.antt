@@ -4,16 +4,18 @@ use native.Mathlib.Decide.{ℕ_discrete}
 use Rattle.std.proofs.lemmas.Bool.Decides.{nat_tests}
 use Rattle.std.specs.Option.{option_map}
 use Rattle.std.proofs.lemmas.Option.{same_Some}
-use Rattle.device.specs.Device.{reach}
+use Rattle.device.specs.Device.{reach, Always}
+use Rattle.device.specs.Laws.{device_always}
 use Rattle.parts.specs.declared.mark.Mark.{Mark}
 use Rattle.parts.specs.declared.line.Line.{Line}
 use Rattle.parts.specs.Lines.{shown_of}
-use Rattle.tier.specs.Meaning.{TierMeaning, TierCall, put, take, change, touch, clear, line, if_held, look_of, out_of}
+use Rattle.tier.specs.Meaning.{TierMeaning, TierCall, put, take, change, touch, clear, Holding, line, if_held, look_of, out_of}
+use Rattle.tier.specs.OneLevel.{OneLevel}
 use Rattle.tier.specs.Options.{never}
-use Rattle.ranks.specs.Ranks.{Ranks, find, without, renewed, oldest, younger, ousted, spared, touched, ranked_step, ranked}
+use Rattle.ranks.specs.Ranks.{Ranks, find, without, renewed, oldest, younger, ousted, spared, touched, ranked_view, ranked_step, ranked}
 use Rattle.ranked.specs.Ages.{uses, last_use, LeavesWhenFull, OldestLeaves}
 use Rattle.ranks.proofs.RanksLemmas.{find-block, find-gone, younger-none}
-use Rattle.ranked.specs.RankedLaws.{Sound, keeps}
+use Rattle.ranked.specs.RankedLaws.{Sound, keeps, look-some}
 use Rattle.ranked.proofs.Full.{full_set}
 
 -- the last uses rise along the lines, from low on, and lie before t
@@ -161,13 +163,16 @@ module _ (renews : Bool) (ways : ℕ) where
   last_first (c ∷ cs) ls f t ok h n k s g o b held ne =
       last_first cs (ranked_step renews ways ls c) _ (suc t) (keeps renews ways ls ok c) (rises-step renews ways ls f t ok h c) n k s g o b held ne
 
-  full_run : (cs : List TierCall) (ls : Ranks) → 1 ≤ ways → Sound ls → (n : ℕ) → LeavesWhenFull 1 ways (reach (ranked renews ways ls) cs) n
-  full_run [] ls some ok n = full_set 1 ways (ranked renews ways ls) n ls some ok (one_held ls n) (λ k s. refl)
-  full_run (c ∷ cs) ls some ok n = full_run cs (ranked_step renews ways ls c) some (keeps renews ways ls ok c) n
+  always : (P : TierMeaning → Type 0) → ((ls : Ranks) → Sound ls → P (ranked renews ways ls)) → Always P (ranked renews ways [])
+  always P now = device_always (λ _. 1) (ranked_view ways) (ranked_step renews ways) (λ s c. refl) P Sound (λ s c i. keeps renews ways s i c) now [] refl
+
+  pub at_one : (ls : Ranks) → OneLevel (ranked renews ways ls)
+  at_one ls = record { depth = refl; level = λ n h e. ap (λ (x : Holding). x.2) (sym (look-some ls n h e).2) }
 
 pub oldest_leaves : (renews : Bool) (ways : ℕ) → 1 ≤ ways → OldestLeaves renews 1 ways (ranked renews ways [])
 oldest_leaves renews ways some = record {
-  when_full = λ cs n e. full_run renews ways cs [] some refl n;
+  one_level = always renews ways OneLevel (λ ls ok. at_one renews ways ls);
+  when_full = λ cs n e. always renews ways (λ m. LeavesWhenFull 1 ways m n) (λ ls ok. full_set 1 ways (ranked renews ways ls) n ls some ok (one_held ls n) (λ k s. refl)) cs;
   of_set = λ cs n k s g e o. one_set g.block n;
   longest = λ cs n k s g e o b held same ne. last_first renews ways cs [] (λ _. 0) 1 refl (omega arith) n k s g o b held ne;
 }

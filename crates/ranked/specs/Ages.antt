@@ -2,10 +2,11 @@
 use Rattle.std.specs.Prelude.{◌≡◌, ℕ, suc, ◌%◌, ◌<◌, Bool, true, false, cond, ◌&&◌, List, [], ◌∷◌, length, is_some, Some, None, nat_eq, nat_le, ◌==◌, ◌≢◌}
 use Rattle.std.specs.List.{IsDistinct}
 use Rattle.std.specs.Set.{is_member}
-use Rattle.device.specs.Device.{after, reach}
+use Rattle.device.specs.Device.{after, reach, Always}
 use Rattle.parts.specs.declared.mark.Mark.{Mark}
 use Rattle.parts.specs.declared.line.Line.{Line}
 use Rattle.tier.specs.Meaning.{TierMeaning, TierCall, put, take, change, touch, clear, if_held, held_of, out_of}
+use Rattle.tier.specs.OneLevel.{OneLevel}
 
 -- whether a call, made of m, is a use of block b: a put that is not refused is one, and so is a touch where touches count
 abbrev pub uses : Bool → TierMeaning → TierCall → ℕ → Bool
@@ -28,9 +29,10 @@ pub record LeavesWhenFull (sets ways : ℕ) (m : TierMeaning) (n : ℕ) : Type 0
   pub once : IsDistinct nat_eq blocks
   pub full : (k : Mark) (s : ℕ) → is_some (out_of m n k s) ≡ nat_le ways (length blocks)
 
--- a put gives a block out just where its set is full; what it gives out is of that set, and every other block held there was
--- used after it
+-- there is one level; a put gives a block out just where its set is full; what it gives out is of that set, and every other block
+-- held there was used after it
 pub record OldestLeaves (renews : Bool) (sets ways : ℕ) (m : TierMeaning) : Type 0 where
+  pub one_level : Always OneLevel m
   pub when_full : (cs : List TierCall) (n : ℕ) → held_of (reach m cs) n ≡ None → LeavesWhenFull sets ways (reach m cs) n
   pub of_set : (cs : List TierCall) (n : ℕ) (k : Mark) (s : ℕ) (g : Line) → held_of (reach m cs) n ≡ None → out_of (reach m cs) n k s ≡ Some g → g.block % sets ≡ n % sets
   pub longest : (cs : List TierCall) (n : ℕ) (k : Mark) (s : ℕ) (g : Line) → held_of (reach m cs) n ≡ None → out_of (reach m cs) n k s ≡ Some g

@@ -105,13 +105,6 @@ module _ (renews : Bool) (ways : ℕ) (ls : Ranks) (ok : Sound ls) where
             | no h ↦ ap (option_map shown_of) (find-push-other (without ls n) g b (λ z. h (z ∙ q)) ∙ find-without ls n b h)
           ]
 
-  touch_free : (n : ℕ) → find ls n ≡ None → ranked_step renews ways ls (touch n) ≡ ls
-  touch_free n e = ap (touched renews ls n) e ∙ go renews
-    where
-      go : (r : Bool) → touched r ls n None ≡ ls
-      go false = refl
-      go true = refl
-
   laws : TierLaws (ranked renews ways ls)
   laws = record {
     depth_low = omega arith;

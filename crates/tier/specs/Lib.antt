@@ -1,4 +1,5 @@
 pub mod Meaning
+pub mod OneLevel
 pub mod Building
 pub mod Pile
 pub mod Piled
