@@ -1,6 +1,5 @@
 -- What the lines of a report read back as.
 use Rattle.std.proofs.Common.{◌≡◌, ℕ, ◌^◌, ◌<◌, true, false, cond, ltb, List, [], ◌∷◌, ◌++◌, codes, Some, None, Option, IfSome, lit<, refl, sym, subst, arith}
-use Rattle.std.specs.Int.{abs_diff}
 use Rattle.protocol.specs.declared.answer.Word.{Word}
 use Rattle.protocol.specs.declared.answer.Word.TheVariants.{Waits, Brought, Read, Wrote, Flushed, Committed, Refused}
 use Rattle.protocol.specs.Answers.{spelling as word_spelling}
