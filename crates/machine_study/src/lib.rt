@@ -2,12 +2,19 @@
 #![tactic(auto)]
 
 ghost use Rattle.std.specs.Prelude.{OnOk};
+ghost use Rattle.std.specs.Io.KnownBytes.{Appends};
+ghost use Rattle.scenario.specs.Texts.{unplaced, scenario_of};
+ghost use Rattle.report.specs.Lines.{text_of};
+ghost use Rattle.report.specs.Reading.{ReadBack};
+ghost use Rattle.simulator.specs.Report.{in_full, report_lines};
 ghost use Rattle.machine_study.specs.Reported.{scenario_report, pair_report, Reported};
 
 use machine::{BLOCKS, two_cores};
+use memory::Memory;
 use memory::cell::UNSET;
 use memory::flat::Flat;
 use paired::comparison::{Placement, compare};
+use row::Row;
 use scenario::layout::{REFERENCES, UNPLACED};
 use simulator::simulate::simulate;
 use std::alloc::Global;
@@ -19,10 +26,23 @@ use std::io::Write;
 pub fn report_scenario<W: Write>(heap: Global, text: &[u8], report: &mut W) -> io::Result<()>
     ensures { OnOk result (Reported (scenario_report text.now) (W.contents report.old) (W.contents report.new)) }
 {
-    let mut layout = [UNPLACED; REFERENCES];
     let mut table = [UNSET; BLOCKS];
     let row = two_cores(heap)?;
-    let (_, written) = simulate(text, &mut layout, row, Flat::over(&mut table), report);
+    report_on(text, row, Flat::over(&mut table), report)
+}
+
+// The same on any row and memory.
+fn report_on<R: Row + Drop, M: Memory + Drop, W: Write>(
+    text: &[u8],
+    row: R,
+    memory: M,
+    report: &mut W,
+) -> io::Result<()>
+    ensures report { OnOk result (Appends (W.contents report.old) (W.contents report.new) (text_of (report_lines in_full (scenario_of unplaced text.now) (R.Row.cores row) (M.Memory.meaning memory)))) }
+    ensures reads_back { ReadBack (report_lines in_full (scenario_of unplaced text.now) (R.Row.cores row) (M.Memory.meaning memory)) }
+{
+    let mut layout = [UNPLACED; REFERENCES];
+    let (_, written) = simulate(text, &mut layout, row, memory, report);
     written
 }
 

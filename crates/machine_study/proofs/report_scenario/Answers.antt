@@ -18,9 +18,9 @@ returns g c =
     let same : report_lines in_full read (cores_of c.in_ok-row.row) (flat name c.over.result.table.now) ≡ scenario_report c.args.text.now name =
     λ i. report_lines in_full read (c.in_ok-row.ensures i) (flat name ((c.over.ensures i).now)) in
     let before = g.W.Write.contents c.args.report.now in
-    let after = g.W.Write.contents c.simulate-written.new.report in
-    on_one c.simulate-written.result.1 c.simulate-written.ensures.report (λ written. record {
+    let after = g.W.Write.contents c.report_on.new.report in
+    on_one c.report_on.result c.report_on.ensures.report (λ written. record {
       names = name;
       report = subst (λ lines. Appends before after (text_of lines)) same written;
-      reads_back = subst ReadBack same c.simulate-written.ensures.reads_back;
+      reads_back = subst ReadBack same c.report_on.ensures.reads_back;
     })
