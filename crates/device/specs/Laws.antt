@@ -1,7 +1,12 @@
 -- How a law of a device is proved: by a fact of its states that every call keeps.
-use Rattle.std.specs.Prelude.{◌≡◌, [], ◌∷◌}
+use Rattle.std.specs.Prelude.{◌≡◌, refl, List, [], ◌∷◌}
 use Rattle.std.proofs.Common.{ap, subst}
-use Rattle.device.specs.Device.{Device, after, reach, Always, run, device}
+use Rattle.device.specs.Device.{Device, after, reach, seen, Always, run, device}
+
+-- what is seen after a list of calls
+pub seen-reach : {K C V : Type 0} (d : Device K C V) (cs : List C) → seen (reach d cs) ≡ d.shows cs
+seen-reach d [] = refl
+seen-reach d (c ∷ cs) = seen-reach (after d c) cs
 
 module _ {S K C V : Type 0} (fixed : S → K) (view : S → V) (step : S → C → S) (stays : (s : S) (c : C) → fixed (step s c) ≡ fixed s) where
   -- the device of the next state is the device after the call

@@ -13,7 +13,7 @@ abbrev first : List Lent → Lent
 first [] = record { name = 0; cells = [] }
 first (x ∷ xs) = x
 
-lent_same : (m w : MemoryMeaning) (x y : Lent) → m ≡ w → lent_of m ≡ x ∷ [] → lent_of w ≡ y ∷ [] → (x.name ≡ y.name) × (x.cells ≡ y.cells)
+pub lent_same : (m w : MemoryMeaning) (x y : Lent) → m ≡ w → lent_of m ≡ x ∷ [] → lent_of w ≡ y ∷ [] → (x.name ≡ y.name) × (x.cells ≡ y.cells)
 lent_same m w x y e p q =
     let same : x ∷ [] ≡ y ∷ [] = sym p ∙ ap (λ (v : MemoryMeaning). lent_of v) e ∙ q in
     (ap (λ (l : List Lent). (first l).name) same, ap (λ (l : List Lent). (first l).cells) same)

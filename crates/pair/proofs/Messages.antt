@@ -30,17 +30,17 @@ module _ (sender n : ℕ) where
 
   -- so any number that agrees up to 8 serves
 
-  invalidated_on : (i j : ℕ) (xs ys : List CoreMeaning) → min 8 j ≡ min 8 (i + length xs) → invalidated i sender n (xs ++ ys) ≡ invalidated i sender n xs ++ invalidated j sender n ys
+  pub invalidated_on : (i j : ℕ) (xs ys : List CoreMeaning) → min 8 j ≡ min 8 (i + length xs) → invalidated i sender n (xs ++ ys) ≡ invalidated i sender n xs ++ invalidated j sender n ys
   unfolding invalidated
   invalidated_on i j [] ys e = grind (arith, invalidated_far)
   invalidated_on i j (x ∷ xs) ys e = grind (arith, invalidated_on (suc i) j xs ys (omega arith))
 
-  met_on : (i j : ℕ) (xs ys : List CoreMeaning) → min 8 j ≡ min 8 (i + length xs) → met i sender n (xs ++ ys) ≡ option_or (met j sender n ys) (met i sender n xs)
+  pub met_on : (i j : ℕ) (xs ys : List CoreMeaning) → min 8 j ≡ min 8 (i + length xs) → met i sender n (xs ++ ys) ≡ option_or (met j sender n ys) (met i sender n xs)
   unfolding met
   met_on i j [] ys e = grind (arith, met_far)
   met_on i j (x ∷ xs) ys e = grind (arith, met_on (suc i) j xs ys (omega arith))
 
-  awaited_on : (i j : ℕ) (xs ys : List CoreMeaning) → min 8 j ≡ min 8 (i + length xs) → awaited i sender n (xs ++ ys) ≡ (awaited i sender n xs || awaited j sender n ys)
+  pub awaited_on : (i j : ℕ) (xs ys : List CoreMeaning) → min 8 j ≡ min 8 (i + length xs) → awaited i sender n (xs ++ ys) ≡ (awaited i sender n xs || awaited j sender n ys)
   unfolding awaited
   awaited_on i j [] ys e = grind (arith, awaited_far)
   awaited_on i j (x ∷ xs) ys e = grind (arith, awaited_on (suc i) j xs ys (omega arith))

@@ -64,7 +64,7 @@ rises-spared : (f : ℕ → ℕ) (free : Bool) (ls : Ranks) (t : ℕ) → Rises 
 rises-spared f true ls t h = h
 rises-spared f false ls t h = rises-younger f ls t h
 
-spared-none : (ways : ℕ) (ls : Ranks) (n : ℕ) → find ls n ≡ None → find (spared ways ls) n ≡ None
+pub spared-none : (ways : ℕ) (ls : Ranks) (n : ℕ) → find ls n ≡ None → find (spared ways ls) n ≡ None
 spared-none ways ls n e = go (ltb (length ls) ways)
   where
     go : (free : Bool) → find (cond free ls (younger ls)) n ≡ None

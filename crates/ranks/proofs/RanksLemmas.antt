@@ -1,5 +1,5 @@
 -- Lines by age: what is found in them after an edit, and that no block stands twice.
-use Rattle.std.specs.Prelude.{◌≡◌, ℕ, true, cond, [], ◌∷◌, ◌++◌, Some, None, ◌≢◌, refl}
+use Rattle.std.specs.Prelude.{◌≡◌, ℕ, suc, true, cond, [], ◌∷◌, ◌++◌, length, Some, None, ◌≢◌, refl}
 use Rattle.std.proofs.Common.{ap, arith, eq-eqb}
 use Rattle.std.proofs.lemmas.Bool.Decides.{nat_tests}
 use Rattle.parts.specs.declared.line.Line.{Line}
@@ -28,6 +28,10 @@ without-none (h ∷ hs) n e = let ih = without-none hs n in grind (arith, nat_te
 pub apart-without : (ls : Ranks) (n : ℕ) → apart ls ≡ true → apart (without ls n) ≡ true
 apart-without [] n a = refl
 apart-without (h ∷ hs) n a = let ih = apart-without hs n in let fw = find-without hs n h.block in grind (arith, nat_tests)
+
+pub length_without : (ls : Ranks) (n : ℕ) (g : Line) → find ls n ≡ Some g → suc (length (without ls n)) ≡ length ls
+length_without [] n g e = never g e
+length_without (h ∷ hs) n g e = let ih = length_without hs n g in grind (arith, nat_tests)
 
 -- ---- with one line more
 
@@ -60,6 +64,10 @@ renewed-none (h ∷ hs) x e = let ih = renewed-none hs x in grind (arith, nat_te
 pub apart-renewed : (ls : Ranks) (x : Line) → apart ls ≡ true → apart (renewed ls x) ≡ true
 apart-renewed [] x a = refl
 apart-renewed (h ∷ hs) x a = let ih = apart-renewed hs x in let fw = find-renewed-other hs x h.block in grind (arith, nat_tests)
+
+pub length-renewed : (ls : Ranks) (x : Line) → length (renewed ls x) ≡ length ls
+length-renewed [] x = refl
+length-renewed (h ∷ hs) x = let ih = length-renewed hs x in grind (arith, nat_tests)
 
 -- ---- without the oldest
 

@@ -93,7 +93,7 @@ module _ (p : Parts) (ok : Sound p) (apart : Apart p) where
   apart-step clear = λ b h. (ok.1 []).clear_gone b
 
 -- one call after a list of calls
-reach-more : {K C V : Type 0} (d : Device K C V) (cs : List C) (c : C) → reach d (cs ++ c ∷ []) ≡ after (reach d cs) c
+pub reach-more : {K C V : Type 0} (d : Device K C V) (cs : List C) (c : C) → reach d (cs ++ c ∷ []) ≡ after (reach d cs) c
 reach-more d [] c = refl
 reach-more d (b ∷ cs) c = reach-more (after d b) cs c
 
