@@ -2,7 +2,7 @@
 #![tactic(auto)]
 
 pub mod counts;
-mod effect;
+pub mod effect;
 pub mod quote;
 pub mod stages;
 mod transfers;
