@@ -13,6 +13,7 @@ use Rattle.interleaved.specs.Interleaved.{interleaved}
 use Rattle.row.specs.Cores.{count_of, AllLawful}
 use Rattle.machine.specs.Machine.{two_cores}
 use Rattle.study.specs.Opening.{opened, opening}
+use Rattle.protocol.specs.declared.weights.Prices.{Prices}
 use Rattle.protocol.specs.Prices.{Affordable}
 use Rattle.study.specs.Warrant.{Warranted}
 use Rattle.examples.specs.Nine.{weights}
@@ -28,9 +29,10 @@ pub record Premises : Type 0 where
   pub table : (a : ℕ) (t : List Cell) → LawfulMemory (flat a t)
   pub windowed : (s l : ℕ) (m : MemoryMeaning) → LawfulMemory m → LawfulMemory (window s l m)
   pub in_turn : (m o : MemoryMeaning) → LawfulMemory m → LawfulMemory o → LawfulMemory (interleaved m o)
-  -- the machine and its weights; over a table of 1 to 4,096 cells its study opens; and all that is warranted of it
+  -- the machine, and the weights of the nine calls; over a table of 1 to 4,096 cells a study on it opens, whatever its weights;
+  -- and all that is warranted of it, whatever weights it is given that weighing takes
   pub cores_lawful : AllLawful two_cores
   pub cores_few : count_of two_cores ≤ 8
   pub fair : Affordable weights
-  pub opens : (a : ℕ) (t : List Cell) → 1 ≤ length t → length t ≤ 4096 → opening two_cores (flat a t) weights ≡ Ok (opened two_cores (flat a t) weights)
-  pub machine : (a : ℕ) (t : List Cell) → Warranted two_cores (flat a t) weights
+  pub opens : (w : Prices) (a : ℕ) (t : List Cell) → 1 ≤ length t → length t ≤ 4096 → opening two_cores (flat a t) w ≡ Ok (opened two_cores (flat a t) w)
+  pub machine : (w : Prices) → Affordable w → (a : ℕ) (t : List Cell) → Warranted two_cores (flat a t) w

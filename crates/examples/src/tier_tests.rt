@@ -76,6 +76,19 @@ fn sets(heap: Global, sets: usize, ways: usize) -> Result<SetAssociative, Fail> 
 }
 
 #[test]
+fn direct_gives_out_what_its_line_holds(rt: HostRuntime) -> Result<(), Fail> {
+    let steps = [
+        Step::Put(0, None),
+        Step::Put(1, None),
+        Step::Put(2, Some(0)),
+        Step::Look(0, None),
+        Step::Look(2, Some((0, 2, 1))),
+    ];
+    assert_eq!(rt; first_wrong(&mut direct(rt.alloc(), 2)?, &steps), None);
+    Ok(())
+}
+
+#[test]
 fn set_gives_out_the_least_recently_used(rt: HostRuntime) -> Result<(), Fail> {
     let steps = [
         Step::Put(0, None),
@@ -88,6 +101,20 @@ fn set_gives_out_the_least_recently_used(rt: HostRuntime) -> Result<(), Fail> {
         Step::Put(3, Some(0)),
     ];
     assert_eq!(rt; first_wrong(&mut sets(rt.alloc(), 1, 2)?, &steps), None);
+    Ok(())
+}
+
+#[test]
+fn queue_gives_out_the_oldest(rt: HostRuntime) -> Result<(), Fail> {
+    let steps = [
+        Step::Put(0, None),
+        Step::Put(1, None),
+        Step::Touch(0, Ok(())),
+        Step::Put(2, Some(0)),
+        Step::Take(1, Some((0, 1, 1))),
+        Step::Put(3, None),
+    ];
+    assert_eq!(rt; first_wrong(&mut queue(rt.alloc(), 2)?, &steps), None);
     Ok(())
 }
 

@@ -26,6 +26,7 @@ use Rattle.protocol.specs.declared.refusal.Refusal.{Refusal}
 use Rattle.protocol.specs.declared.refusal.Refusal.TheVariants.{NoBlocks}
 use Rattle.study.specs.Run.{RunMeaning}
 use Rattle.study.specs.Opening.{opened, opening}
+use Rattle.protocol.specs.declared.weights.Prices.{Prices}
 use Rattle.protocol.specs.Prices.{is_dear, Affordable}
 use Rattle.study.proofs.Warranty.{warrant}
 use Rattle.examples.specs.Nine.{weights}
@@ -55,9 +56,9 @@ unfolding is_dear
 fair = refl
 
 -- a table of 1 to 4,096 cells is a memory of so many blocks, so that the study opens
-opens : (a : ℕ) (t : List Cell) → 1 ≤ length t → length t ≤ 4096 → opening two_cores (flat a t) weights ≡ Ok (opened two_cores (flat a t) weights)
-opens a t some most =
-    let go : Bool → Result RunMeaning Refusal = λ b. cond b (Err NoBlocks) (Ok (opened two_cores (flat a t) weights)) in
+opens : (w : Prices) (a : ℕ) (t : List Cell) → 1 ≤ length t → length t ≤ 4096 → opening two_cores (flat a t) w ≡ Ok (opened two_cores (flat a t) w)
+opens w a t some most =
+    let go : Bool → Result RunMeaning Refusal = λ b. cond b (Err NoBlocks) (Ok (opened two_cores (flat a t) w)) in
     ap (λ b. go (eqb (cond b 0 (length t)) 0)) (le-ltb 4096 (length t) most) ∙ ap go (ne_eqb (length t) 0 (λ e. omega arith))
 
 pub returns-clause-met : goal.returns-clause-met
@@ -73,7 +74,7 @@ returns-clause-met c = record {
   cores_few = few;
   fair = fair;
   opens = opens;
-  machine = λ a t. warrant two_cores (flat a t) weights few both (flat-lawful a t) fair;
+  machine = λ w ok a t. warrant two_cores (flat a t) w few both (flat-lawful a t) ok;
 }
 
 -- ---- a kind whose choice moves on with every call
