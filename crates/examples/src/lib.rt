@@ -1,4 +1,4 @@
-//! Worked examples: proved of the definitions, and most of them run as tests of the code.
+//! Worked examples: proved of the definitions, and run as tests of the code.
 #![tactic(auto)]
 
 ghost use Rattle.std.specs.Prelude.{◌≡◌};

@@ -1,4 +1,4 @@
-//! The nine calls over a lent table, and a study that is refused. The functions are generic over the row, which makes their check shorter.
+//! The nine calls over a lent table, two small figures, and a study that is refused. The functions are generic over the row, which makes their check shorter.
 use lent_study::simulate_in_table;
 use machine::two_cores;
 use memory::cell::{Cell, State};
@@ -69,6 +69,46 @@ fn nine<R: Row + Drop>(rt: &impl Abort, row: R) {
     assert_eq!(rt; table, left);
 }
 
+// Three accesses, one of them at level 2 for 1: a third, rounded down.
+fn a_third<R: Row + Drop>(rt: &impl Abort, row: R) {
+    let mut table = [OLD; 16];
+    let mut schedule = [
+        Turn::new(Call::Read(0, 0)),
+        Turn::new(Call::Fetch(0)),
+        Turn::new(Call::Resume(0)),
+        Turn::new(Call::Read(0, 2)),
+        Turn::new(Call::Fetch(0)),
+        Turn::new(Call::Resume(0)),
+        Turn::new(Call::Read(0, 0)),
+    ];
+    let prices = Prices {
+        w2: 1,
+        ..Prices::default()
+    };
+    let expected_quote = Quote {
+        accesses: 3,
+        total: 1,
+        figure: Some(33),
+    };
+    assert_eq!(rt;
+        simulate_in_table(row, &mut table, prices, &mut schedule),
+        Ok(expected_quote)
+    );
+}
+
+// Without accesses there is no mean.
+fn no_access<R: Row + Drop>(rt: &impl Abort, row: R) {
+    let expected_quote = Quote {
+        accesses: 0,
+        total: 0,
+        figure: None,
+    };
+    assert_eq!(rt;
+        simulate_in_table(row, &mut [OLD; 2], Prices::default(), &mut []),
+        Ok(expected_quote)
+    );
+}
+
 // A study that is refused leaves table and schedule as they were.
 fn too_dear<R: Row + Drop>(rt: &impl Abort, row: R) {
     let mut table = [OLD; 2];
@@ -88,6 +128,8 @@ fn too_dear<R: Row + Drop>(rt: &impl Abort, row: R) {
 #[test]
 fn lent_tables(rt: HostRuntime) -> Result<(), Fail> {
     nine(&rt, two_cores(rt.alloc())?);
+    a_third(&rt, two_cores(rt.alloc())?);
+    no_access(&rt, two_cores(rt.alloc())?);
     too_dear(&rt, two_cores(rt.alloc())?);
     Ok(())
 }

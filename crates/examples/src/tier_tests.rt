@@ -141,6 +141,25 @@ fn pile_sinks_and_gives_out(rt: HostRuntime) -> Result<(), Fail> {
     Ok(())
 }
 
+// The fifth level counts as the fourth.
+#[test]
+fn five_levels_show_as_four(rt: HostRuntime) -> Result<(), Fail> {
+    let lowest = Pile::new(direct(rt.alloc(), 1)?, direct(rt.alloc(), 1)?);
+    let lower = Pile::new(direct(rt.alloc(), 1)?, lowest);
+    let upper = Pile::new(direct(rt.alloc(), 1)?, lower);
+    let mut five = Pile::new(direct(rt.alloc(), 1)?, upper);
+    let steps = [
+        Step::Put(0, None),
+        Step::Put(1, None),
+        Step::Put(2, None),
+        Step::Put(3, None),
+        Step::Put(4, None),
+        Step::Look(0, Some((0, 0, 4))),
+    ];
+    assert_eq!(rt; first_wrong(&mut five, &steps), None);
+    Ok(())
+}
+
 // The turn to leave passes with every call but look: the first line's after an even number of them, else the second's.
 #[test]
 fn free_running_moves_on(rt: HostRuntime) {
