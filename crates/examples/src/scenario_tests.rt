@@ -21,42 +21,63 @@ use std::test::Fail;
 use study::quote::Quote;
 use tier::pile::Pile;
 
-const NINE_TEXT: &str = "weights\t0\t10\t10\t10\t100\nref\t1\t3\n\
-    read\t0\t1\nfetch\t0\nresume\t0\nwrite\t0\t1\nread\t1\t1\nfetch\t1\nflush\t0\t1\nfetch\t1\nresume\t1\n";
+// A scenario, and what has to become of it: its report, and its quote.
+#[derive(Clone, Copy)]
+struct Told {
+    text: &'static str,
+    report: &'static str,
+    quote: Quote,
+}
 
-const NINE_REPORT: &str =
-    "1\twaits\t3\t0\n2\tbrought\t3\t100\n3\tread\t0\t100\n4\twrote\t1\t100\n5\twaits\t3\t100\n\
-    6\trefused\t8\t100\n7\tflushed\t3\t200\n8\tbrought\t3\t300\n9\tread\t1\t300\nquote\t3\t300\t10000\n";
+const NINE: Told = Told {
+    text: "weights\t0\t10\t10\t10\t100\nref\t1\t3\n\
+    read\t0\t1\nfetch\t0\nresume\t0\nwrite\t0\t1\nread\t1\t1\nfetch\t1\nflush\t0\t1\nfetch\t1\nresume\t1\n",
+    report: "1\twaits\t3\t0\n2\tbrought\t3\t100\n3\tread\t0\t100\n4\twrote\t1\t100\n5\twaits\t3\t100\n\
+    6\trefused\t8\t100\n7\tflushed\t3\t200\n8\tbrought\t3\t300\n9\tread\t1\t300\nquote\t3\t300\t10000\n",
+    quote: Quote {
+        accesses: 3,
+        total: 300,
+        figure: Some(10_000),
+    },
+};
 
-const LEAVING_TEXT: &str =
-    "weights\t1\t10\t20\t40\t100\nref\t1\t2\nref\t2\t3\nref\t3\t5\nref\t4\t6\n\
+const LEAVING: Told = Told {
+    text: "weights\t1\t10\t20\t40\t100\nref\t1\t2\nref\t2\t3\nref\t3\t5\nref\t4\t6\n\
     write\t0\t1\nfetch\t0\nwrite\t1\t1\nfetch\t1\nresume\t0\nflush\t0\t1\nresume\t1\nfetch\t1\n\
     write\t0\t2\nfetch\t0\nresume\t0\nread\t0\t3\nfetch\t0\nresume\t0\nwrite\t0\t4\nfetch\t0\nresume\t0\n\
-    read\t0\t3\ncommit\t0\t4\ncommit\t0\t4\nread\t0\t2\ncommit\t0\t2\nfetch\t1\nresume\t1\n";
-
-const LEAVING_REPORT: &str =
-    "1\twaits\t2\t0\n2\tbrought\t2\t100\n3\twaits\t2\t100\n4\tbrought\t2\t200\n\
+    read\t0\t3\ncommit\t0\t4\ncommit\t0\t4\nread\t0\t2\ncommit\t0\t2\nfetch\t1\nresume\t1\n",
+    report: "1\twaits\t2\t0\n2\tbrought\t2\t100\n3\twaits\t2\t100\n4\tbrought\t2\t200\n\
     5\twrote\t1\t201\n6\trefused\t9\t201\n7\twaits\t2\t201\n8\trefused\t8\t201\n\
     9\twaits\t3\t201\n10\tbrought\t3\t301\n11\twrote\t2\t302\n\
     12\twaits\t5\t302\n13\tbrought\t5\t402\n14\tread\t0\t403\n\
     15\twaits\t6\t403\n16\tbrought\t6\t503\n17\twrote\t3\t504\n\
     18\tread\t0\t505\n19\tcommitted\t1\t605\n20\tcommitted\t0\t605\n21\tread\t2\t715\n22\tcommitted\t1\t815\n\
-    23\tbrought\t2\t915\n24\twrote\t4\t916\nquote\t7\t916\t13085\n";
+    23\tbrought\t2\t915\n24\twrote\t4\t916\nquote\t7\t916\t13085\n",
+    quote: Quote {
+        accesses: 7,
+        total: 916,
+        figure: Some(13_085),
+    },
+};
 
 // The same up to its seventeenth step: then nothing touches block 5, which sinks for the hit at level 2, and no line leaves.
-const UNTOUCHED_TEXT: &str =
-    "weights\t1\t10\t20\t40\t100\nref\t1\t2\nref\t2\t3\nref\t3\t5\nref\t4\t6\n\
+const UNTOUCHED: Told = Told {
+    text: "weights\t1\t10\t20\t40\t100\nref\t1\t2\nref\t2\t3\nref\t3\t5\nref\t4\t6\n\
     write\t0\t1\nfetch\t0\nwrite\t1\t1\nfetch\t1\nresume\t0\nflush\t0\t1\nresume\t1\nfetch\t1\n\
     write\t0\t2\nfetch\t0\nresume\t0\nread\t0\t3\nfetch\t0\nresume\t0\nwrite\t0\t4\nfetch\t0\nresume\t0\n\
-    commit\t0\t4\ncommit\t0\t4\nread\t0\t2\n";
-
-const UNTOUCHED_REPORT: &str =
-    "1\twaits\t2\t0\n2\tbrought\t2\t100\n3\twaits\t2\t100\n4\tbrought\t2\t200\n\
+    commit\t0\t4\ncommit\t0\t4\nread\t0\t2\n",
+    report: "1\twaits\t2\t0\n2\tbrought\t2\t100\n3\twaits\t2\t100\n4\tbrought\t2\t200\n\
     5\twrote\t1\t201\n6\trefused\t9\t201\n7\twaits\t2\t201\n8\trefused\t8\t201\n\
     9\twaits\t3\t201\n10\tbrought\t3\t301\n11\twrote\t2\t302\n\
     12\twaits\t5\t302\n13\tbrought\t5\t402\n14\tread\t0\t403\n\
     15\twaits\t6\t403\n16\tbrought\t6\t503\n17\twrote\t3\t504\n\
-    18\tcommitted\t1\t604\n19\tcommitted\t0\t604\n20\tread\t2\t614\nquote\t5\t614\t12280\n";
+    18\tcommitted\t1\t604\n19\tcommitted\t0\t604\n20\tread\t2\t614\nquote\t5\t614\t12280\n",
+    quote: Quote {
+        accesses: 5,
+        total: 614,
+        figure: Some(12_280),
+    },
+};
 
 fn cell(state: State, stamp: u32) -> Cell {
     Cell { state, stamp }
@@ -66,14 +87,6 @@ fn core(heap: Global) -> Result<Core<Pile<SetAssociative, Direct>>, Fail> {
     let upper = SetAssociative::new(heap, 1, 2).map_err(|_| Fail::new("refused"))?;
     let lower = Direct::new(heap, 2).map_err(|_| Fail::new("refused"))?;
     Ok(Core::new(Pile::new(upper, lower)))
-}
-
-// A scenario, and what has to become of it: its report, and its quote.
-#[derive(Clone, Copy)]
-struct Told {
-    text: &'static str,
-    report: &'static str,
-    quote: Quote,
 }
 
 // What the study comes to, once all of its report was written.
@@ -115,16 +128,7 @@ fn tells<R: Row + Drop>(
 
 #[test]
 fn nine_calls_are_told(rt: HostRuntime) -> Result<(), Fail> {
-    let told = Told {
-        text: NINE_TEXT,
-        report: NINE_REPORT,
-        quote: Quote {
-            accesses: 3,
-            total: 300,
-            figure: Some(10_000),
-        },
-    };
-    let (layout, table) = tells(&rt, rt.alloc(), two_cores(rt.alloc())?, told)?;
+    let (layout, table) = tells(&rt, rt.alloc(), two_cores(rt.alloc())?, NINE)?;
     let mut placed = [UNPLACED; REFERENCES];
     placed[1] = 3;
     assert_eq!(rt; layout, placed);
@@ -136,17 +140,8 @@ fn nine_calls_are_told(rt: HostRuntime) -> Result<(), Fail> {
 
 #[test]
 fn a_modified_line_leaves_for_a_hit(rt: HostRuntime) -> Result<(), Fail> {
-    let told = Told {
-        text: LEAVING_TEXT,
-        report: LEAVING_REPORT,
-        quote: Quote {
-            accesses: 7,
-            total: 916,
-            figure: Some(13_085),
-        },
-    };
     let row = Pair::new(core(rt.alloc())?, core(rt.alloc())?);
-    let (layout, table) = tells(&rt, rt.alloc(), row, told)?;
+    let (layout, table) = tells(&rt, rt.alloc(), row, LEAVING)?;
     let mut placed = [UNPLACED; REFERENCES];
     placed[1] = 2;
     placed[2] = 3;
@@ -164,16 +159,13 @@ fn a_modified_line_leaves_for_a_hit(rt: HostRuntime) -> Result<(), Fail> {
 
 #[test]
 fn without_a_touch_none_leaves(rt: HostRuntime) -> Result<(), Fail> {
-    let told = Told {
-        text: UNTOUCHED_TEXT,
-        report: UNTOUCHED_REPORT,
-        quote: Quote {
-            accesses: 5,
-            total: 614,
-            figure: Some(12_280),
-        },
-    };
     let row = Pair::new(core(rt.alloc())?, core(rt.alloc())?);
-    let _ = tells(&rt, rt.alloc(), row, told)?;
+    let (_, table) = tells(&rt, rt.alloc(), row, UNTOUCHED)?;
+    // 6 alone was committed, and 2 and 3 are modified still
+    let mut left = [cell(State::Valid, 0); 16];
+    left[2].state = State::Stale;
+    left[3].state = State::Stale;
+    left[6].stamp = 3;
+    assert_eq!(rt; table, left);
     Ok(())
 }
